@@ -1,0 +1,3 @@
+pub mod Layouts
+pub mod Disks
+pub mod Records

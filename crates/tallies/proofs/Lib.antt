@@ -1,0 +1,7 @@
+pub mod Moves
+pub mod Flying
+pub mod Keeping
+pub mod Counting
+pub mod Landing
+pub mod Residing
+pub mod Lawfulness
