@@ -1,9 +1,8 @@
 -- Each unit that goes by is counted once, by its answer. Assumes nothing.
 use Prim.Native.Nat.{ℕ, _+_}
-use mathlib.Core.Path.{_≡_, refl, ap, _∙_}
-use mathlib.Core.List.{List, [], _∷_, _++_}
+use mathlib.Core.Path.{_≡_, refl}
+use mathlib.Core.List.{List, [], _∷_}
 use native.Mathlib.Omega.{arith}
-use Rattle.maps.specs.Outcomes.{Outcome, accepted, refused}
 use Rattle.arrays.specs.Disks.{Disks}
 use Rattle.instances.specs.Instances.{Instance}
 use Rattle.tallies.specs.declared.call.Call.{Call}
@@ -53,8 +52,3 @@ times w disks calls =
       stall = omega (arith, after-stall w s calls);
       elapsed = omega (arith, after-elapsed w s calls, after-cursor w s calls, after-stall w s calls, units-add (log w s calls));
     }
-
--- calls in two parts
-pub after-append : (w : Instance) (s : State) (first rest : List Call) → after w s (first ++ rest) ≡ after w (after w s first) rest
-after-append w s [] rest = refl
-after-append w s (c ∷ first) rest = after-append w (next w s c) first rest

@@ -1,13 +1,20 @@
 -- The tally of every list of calls is lawful. Assumes nothing.
 use mathlib.Core.Path.{_≡_, sym, ap, subst, _∙_}
 use mathlib.Core.List.{List, _∷_, _++_}
-use Rattle.instances.specs.Instances.{Instance}
+use Prim.Native.Nat.{ℕ}
+use Rattle.settings.specs.declared.setting.Setting.{Setting}
+use Rattle.settings.specs.Contents.{content}
+use Rattle.arrays.specs.Disks.{Disks, Working}
+use Rattle.arrays.specs.Layouts.{Layout, Housed}
+use Rattle.instances.specs.Instances.{Instance, instance}
+use Rattle.instances.proofs.Soundness.{sound}
 use Rattle.tallies.specs.declared.call.Call.{Call}
 use Rattle.tallies.specs.declared.call.Call.the-variants as call
 use Rattle.tallies.specs.Tally.{State, beginning, answer, next, after, tally}
 use Rattle.tallies.specs.Logs.{log}
-use Rattle.tallies.specs.Laws.{Lasts, Answers-cached, Tallies-lawful}
-use Rattle.tallies.proofs.Counting.{times, after-append}
+use Rattle.tallies.specs.Laws.{Lasts, Answers-cached, Lawful, Tallies-lawful}
+use Rattle.tallies.proofs.Appending.{after-append}
+use Rattle.tallies.proofs.Counting.{times}
 use Rattle.tallies.proofs.Keeping.{kept-tally}
 use Rattle.tallies.proofs.Landing.{lasts}
 use Rattle.tallies.proofs.Moves.{unit-by}
@@ -29,3 +36,9 @@ tallies-lawful w disks calls sound four = record {
   residents = residents w disks calls sound four;
   cached = λ first rest split. answers-cached w (tally w disks first);
 }
+
+-- the same, of the instance of a setting and an array
+pub lawful-above : (s : Setting) (l : Layout) (time : ℕ) (disks : Disks) → Housed l → Working (l .disks) time disks → (calls : List Call)
+    → Lawful (instance (content s) l time) disks calls
+lawful-above s l time disks housed working calls =
+    tallies-lawful (instance (content s) l time) disks calls (sound s l time disks housed working) (working .four)

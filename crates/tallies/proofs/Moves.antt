@@ -10,6 +10,7 @@ use Rattle.std.specs.declared.option.Option.{Option}
 use Rattle.std.specs.declared.option.Option.the-variants.{Some, None}
 use Rattle.maps.specs.Maps.{has, without}
 use Rattle.maps.specs.Outcomes.{Outcome, accepted, refused, and-then}
+use Rattle.maps.proofs.Outcomes.{passed-test, held-test}
 use Rattle.arrays.specs.declared.fetch.Fetch.{Fetch}
 use Rattle.arrays.specs.Disks.{holds, begin-outcome, begun, idle-outcome}
 use Rattle.instances.specs.Instances.{Instance, asked, home}
@@ -40,6 +41,16 @@ pub record Going (w : Instance) (s : State) (b : ℕ) (t : Bool) : Type 0 where
   pub asks : b ≡ asked w (s .cursor)
   pub found : has (s .cache) b ≡ t
 
+-- an order that passes its own tests evicts a cached block
+pub evicts-cached : (w : Instance) (s : State) (i o : ℕ) → admit w s i o ≡ accepted → has (s .cache) o ≡ true
+evicts-cached w s i o e =
+    let (sane, past-void) = passed-test (s .void) 4 _ _ e in
+    let (going, past-finish) = passed-test (finished w s) 5 _ _ past-void in
+    let (in-known, past-in) = passed-test (leb (w .blocks) i) 7 _ _ past-finish in
+    let (out-known, past-out) = passed-test (leb (w .blocks) o) 7 _ _ past-in in
+    let (absent, past-cached) = passed-test (has (s .cache) i) 8 _ _ past-out in
+    held-test (has (s .cache) o) accepted 9 _ past-cached .0
+
 -- the array's part of an order
 begin-by : (w : Instance) (s : State) (i o : ℕ) (P : Outcome → State → Type 0)
     → ((n : ℕ) (values : List ℕ) → P (refused n values) s)
@@ -66,7 +77,6 @@ pub order-by : (w : Instance) (s : State) (i o : ℕ) (P : Outcome → State →
     → ((n : ℕ) (values : List ℕ) → P (refused n values) s)
     → (Allowed w s i o → P accepted (began w s i o))
     → P (order-outcome w s i o) (ordered (order-outcome w s i o) w s i o)
-unfolding admit
 order-by w s i o P halt goes =
     let F : Outcome → Type 0 = λ r. P (and-then r (begin-outcome (layout w) (s .disks) i)) (ordered (and-then r (begin-outcome (layout w) (s .disks) i)) w s i o) in
     cond-both (s .void) _ _ F (λ e. halt _ _) (λ sane.
@@ -85,7 +95,6 @@ pub unit-by : (w : Instance) (s : State) (P : Answer → State → Type 0)
     → ((b : ℕ) → Going w s b true → P (served b) (passed s (s .cursor + 1) (s .stall)))
     → ((b : ℕ) → Going w s b false → P (stalled b) (passed s (s .cursor) (s .stall + 1)))
     → P (answer w s call.Unit) (next w s call.Unit)
-unfolding ready
 unit-by w s P halt hit miss =
     let F : Outcome → Type 0 = λ r. P (unit-answer r w s) (unit-state (unit-answer r w s) s) in
     let G : Answer → Type 0 = λ a. P a (unit-state a s) in

@@ -47,7 +47,7 @@ abbrev pub layout : Instance → Layout
 layout w = record { disks = w .disks; homes = w .homes }
 
 -- an order's own tests: void, finished, blocks that there are not, a block that is cached already, one that is not cached
-unfoldable pub admit : Instance → State → ℕ → ℕ → Outcome
+abbrev pub admit : Instance → State → ℕ → ℕ → Outcome
 admit w s in-block out-block =
     cond (s .void) (refused 4 [])
     (cond (finished w s) (refused 5 (s .elapsed ∷ []))
@@ -67,7 +67,7 @@ ordered accepted w s i o =
 ordered (refused n values) w s i o = s
 
 -- a unit's own tests: void, finished, no unit left to count
-unfoldable pub ready : Instance → State → Outcome
+abbrev pub ready : Instance → State → Outcome
 ready w s =
     cond (s .void) (refused 4 []) (cond (finished w s) (refused 5 (s .elapsed ∷ [])) (cond (eqb (s .elapsed) 65535) (refused 6 (s .stall ∷ [])) accepted))
 
