@@ -129,7 +129,16 @@ has-first : (a : ℕ) → cond (has a 0) 1 0 ≡ a % 2
 unfolding has
 has-first a = let whole : a / 2 ^ 0 ≡ a = div-one a in rw whole (grind (arith, tells))
 
-has-next : (a b : ℕ) → has (a / 2) b ≡ has a (suc b)
+-- the lowest bit, and the others
+pub has-low : (a : ℕ) (t : Bool) → a % 2 ≡ cond t 1 0 → has a 0 ≡ t
+unfolding has
+has-low a t h = let whole : a / 2 ^ 0 ≡ a = div-one a in rw whole (ap (λ n. eqb n 1) h ∙ bit t)
+  where
+    bit : (t : Bool) → eqb (cond t 1 0) 1 ≡ t
+    bit true = refl
+    bit false = refl
+
+pub has-next : (a b : ℕ) → has (a / 2) b ≡ has a (suc b)
 unfolding has
 has-next a b = ap (λ n. eqb (n % 2) 1) (shr-shr a 1 b ∙ ap (λ n. a / 2 ^ n) (one-add b))
 

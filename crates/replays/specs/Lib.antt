@@ -1,0 +1,3 @@
+pub mod Replay
+pub mod Spelling
+pub mod Turns
