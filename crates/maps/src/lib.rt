@@ -6,6 +6,10 @@ ghost use mathlib.Core.Bool.{_||_, _&&_, not, cond, true};
 ghost use mathlib.Core.Path.{_≡_};
 ghost use Rattle.maps.specs.Maps.{has, with, without, total};
 
+mod numbers;
+
+pub use numbers::big_endian;
+
 // Whether a block is in the map; one above 63 is in none.
 pub fn has(map: u64, block: u8) -> bool
     ensures { λ r. ⌜ r ≡ has map block ⌝ }

@@ -12,7 +12,8 @@ use Rattle.std.proofs.shelf.Lists.{getD-past}
 use Rattle.std.proofs.shelf.Tests.{or-parts, or-from, ltb-false, ltb-true, le-ltb, lt-ltb, eqb-true, eq-eqb, and-parts, and-from, cond-true, cond-false, cases-lt}
 use Rattle.maps.specs.Outcomes.{Outcome, accepted, refused, and-then}
 use Rattle.maps.proofs.Outcomes.{and-then-parts, passed-test, held-test}
-use Rattle.settings.specs.Contents.{Content, Within}
+use Rattle.settings.specs.declared.setting.Setting.{Setting}
+use Rattle.settings.specs.Contents.{Content, Within, content}
 use Rattle.settings.specs.Filling.{try-figures, try-initial, try-requests, try-content, Fills-within}
 
 -- the figures that pass
@@ -84,3 +85,16 @@ fills-within new = (within new, accepts new)
 -- what is said of each place of a list, said of every number: past its end the default is 0
 pub each-place : (rs : List ℕ) (m : ℕ) → 1 ≤ m → ((i : ℕ) → i < length rs → getD rs i 0 < m) → (i : ℕ) → getD rs i 0 < m
 each-place rs m some h i = ⊎-elim (λ l. h i l) (λ l. omega (arith, getD-past rs i 0 l)) (cases-lt i (length rs))
+
+-- every setting is within the limits
+pub setting-within : (s : Setting) → Within (content s)
+setting-within s = record {
+  some-block = s .«some_block»;
+  few-blocks = s .«few_blocks»;
+  some-held = s .«some_held»;
+  few-held = s .«few_held»;
+  few-requests = omega (arith, s .«few_requests», s .requests .ok .0);
+  full = s .full;
+  known = s .known;
+  named = λ i h. s .named i;
+}
