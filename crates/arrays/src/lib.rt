@@ -3,6 +3,7 @@ mod array;
 mod disk;
 mod drive;
 mod fetch;
+mod numbering;
 
 pub use array::Array;
 pub use array::Placement;

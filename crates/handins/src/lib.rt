@@ -3,6 +3,7 @@ mod counting;
 mod cut;
 mod fault;
 mod marking;
+mod numbering;
 mod parts;
 mod report;
 

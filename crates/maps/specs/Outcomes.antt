@@ -11,3 +11,8 @@ pub data Outcome : Type 0 where
 abbrev pub and-then : Outcome → Outcome → Outcome
 and-then accepted next = next
 and-then (refused n values) next = refused n values
+
+-- the number of a refusal; an acceptance has none
+abbrev pub number-of : Outcome → ℕ
+number-of accepted = 0
+number-of (refused n values) = n

@@ -1,5 +1,6 @@
 // Schedules: bytes that say which orders and units to give to a run.
 mod fault;
+mod numbering;
 mod reading;
 mod record;
 mod replaying;

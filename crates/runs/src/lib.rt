@@ -1,5 +1,6 @@
 // Runs: a setting and an array of disks, and the calls given to them.
 mod fault;
+mod numbering;
 mod performing;
 mod reading;
 mod reply;

@@ -1,6 +1,7 @@
 // The setting of a run: the blocks, the cache's size, the initial cache and the requests.
 mod fault;
 mod filling;
+mod numbering;
 mod reading;
 mod setting;
 
