@@ -1,5 +1,5 @@
 -- The ways in which a begin ends. Assumes nothing.
-use Prim.Native.Nat.{ℕ, _<_, _≤_}
+use Prim.Native.Nat.{ℕ, _≤_}
 use mathlib.Core.Path.{_≡_, refl, sym, ap, _∙_}
 use mathlib.Core.Bool.{cond}
 use mathlib.Core.List.{[], _∷_}
@@ -10,7 +10,7 @@ use Rattle.std.proofs.shelf.Tests.{le-ltb}
 use Rattle.std.specs.declared.option.Option.{Option}
 use Rattle.std.specs.declared.option.Option.the-variants.{Some, None}
 use Rattle.std.specs.declared.result.Result.the-variants.{Ok, Err}
-use Rattle.maps.specs.Outcomes.{Outcome, accepted, refused}
+use Rattle.maps.specs.Outcomes.{accepted, refused}
 use Rattle.arrays.specs.declared.fetch.Fetch.{Fetch}
 use Rattle.arrays.specs.Layouts.{Layout, home}
 use Rattle.arrays.specs.Disks.{Disks, holds, idle-outcome, begin-outcome, begin-disks, begun}

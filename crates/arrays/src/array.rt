@@ -1,6 +1,5 @@
 // What a placement and an array are, whoever writes them.
 ghost use Prim.Native.Nat.{ℕ, _<_, _≤_};
-ghost use mathlib.Core.List.{List};
 ghost use mathlib.Core.Path.{_≡_};
 ghost use Rattle.arrays.specs.Disks.{Disks, Working, holds, outcome, begin-outcome, begin-disks, step-disks, arrivals};
 ghost use Rattle.arrays.specs.Layouts.{Layout, Housed, home};

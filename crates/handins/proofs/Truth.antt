@@ -1,12 +1,12 @@
 -- A hand-in whose parts pass is marked truly. Assumes nothing.
 use Prim.Native.Nat.{ℕ, _+_, _^_, _<_, _≤_}
 use mathlib.Core.Path.{_≡_, refl}
-use mathlib.Core.Bool.{Bool, _||_}
+use mathlib.Core.Bool.{_||_}
 use mathlib.Core.List.{List}
 use mathlib.Core.Logic.{⊎-elim}
 use native.Mathlib.Omega.{arith}
 use lib.Dec.{ltb}
-use lib.ListN.{length, getD, take, drop}
+use lib.ListN.{getD, take, drop}
 use Rattle.std.proofs.shelf.Lists.{getD-take, getD-drop, getD-past, length-take}
 use Rattle.std.proofs.shelf.Tests.{or-parts, ltb-false, cases-lt}
 use Rattle.maps.specs.Outcomes.{Outcome, accepted, refused}

@@ -1,10 +1,10 @@
 // The parts of a hand-in, read and cut out.
 ghost use Prim.Native.Nat.{_+_, _≤_};
-ghost use lib.ListN.{length, getD};
+ghost use lib.ListN.{length};
 ghost use mathlib.Core.Path.{_≡_};
 ghost use Rattle.std.specs.Results.{Cases};
 ghost use Rattle.handins.specs.Faults.{and-then, tried};
-ghost use Rattle.handins.specs.Fields.{requests-end, schedule-in, schedule-end, schedule-start, try-size, try-map-byte, try-whole, try-schedule};
+ghost use Rattle.handins.specs.Fields.{requests-end, try-size, try-map-byte, try-whole, try-schedule};
 ghost use Rattle.handins.specs.Reading.{Fields, Cut};
 use crate::cut::PartOne;
 use crate::cut::Schedule;

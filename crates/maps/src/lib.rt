@@ -1,5 +1,5 @@
 // Sets of blocks and of disks as 64-bit maps: bit b, bit 0 lowest, stands for block or disk b.
-ghost use Prim.Native.Nat.{ℕ, _+_, _<_, _^_};
+ghost use Prim.Native.Nat.{ℕ, _<_, _^_};
 ghost use lib.Count.{ones};
 ghost use lib.Dec.{eqb, ltb};
 ghost use mathlib.Core.Bool.{_||_, _&&_, not, cond, true};

@@ -1,6 +1,6 @@
 -- Memory for what is noted. Assumes nothing.
-use Prim.Native.Nat.{ℕ, _+_, _<_, _≤_}
-use mathlib.Core.Path.{_≡_, ap}
+use Prim.Native.Nat.{ℕ, _<_}
+use mathlib.Core.Path.{ap}
 use native.Mathlib.Omega.{arith}
 use Rattle.std.specs.Of.Vec.{vec-len, vec-cap}
 use Rattle.replays.specs.declared.turn.Transcript.{Transcript}

@@ -1,10 +1,9 @@
 -- A replay gives the calls that its bytes spell. Assumes nothing.
 use Prim.Native.Nat.{ℕ, zero, suc, _+_, _-_, _^_, _<_, _≤_}
 use mathlib.Core.Path.{_≡_, refl, sym, ap, subst, _∙_}
-use mathlib.Core.Bool.{Bool, true, false, cond, not, _&&_, _||_}
-use mathlib.Core.List.{List, [], _∷_, _++_, map}
+use mathlib.Core.Bool.{true, false, not, _&&_}
+use mathlib.Core.List.{List, [], _∷_, _++_}
 use mathlib.Core.Logic.{⊎-elim}
-use native.Mathlib.Numerals.{add-one}
 use native.Mathlib.Omega.{arith}
 use lib.Dec.{eqb, leb, ltb}
 use lib.ListN.{length, getD, take, drop, set, length-set}
@@ -14,26 +13,24 @@ use Rattle.std.specs.Joined.{joined}
 use Rattle.std.specs.Options.{isSome}
 use Rattle.std.proofs.shelf.Counted.{map-counting-more}
 use Rattle.std.proofs.shelf.Lists.{append-nil, append-assoc, joined-more, length-push, map-push, take-all, take-append-drop, take-more, map-id}
-use Rattle.std.proofs.shelf.Tests.{cases-bool, cases-lt, cases-eq, cond-both, or-parts, leb-false, ltb-false, ltb-true}
-use Rattle.std.specs.declared.option.Option.{Option}
+use Rattle.std.proofs.shelf.Tests.{cases-eq, cond-both, or-parts, leb-false, ltb-false, ltb-true}
 use Rattle.std.specs.declared.option.Option.the-variants.{Some, None}
 use Rattle.maps.specs.Maps.{has}
 use Rattle.maps.specs.Outcomes.{Outcome, accepted, refused}
 use Rattle.instances.specs.Instances.{Instance, home}
 use Rattle.tallies.specs.declared.call.Call.{Call}
 use Rattle.tallies.specs.declared.call.Call.the-variants as call
-use Rattle.tallies.specs.Tally.{State, Answer, told, served, stalled, finished, order-outcome, answer, next, after, answers}
+use Rattle.tallies.specs.Tally.{State, Answer, finished, order-outcome, answer, next, after, answers}
 use Rattle.tallies.specs.Logs.{serves, stalls}
 use Rattle.tallies.proofs.Appending.{after-append, answers-append}
 use Rattle.tallies.proofs.Counting.{next-elapsed}
 use Rattle.tallies.proofs.Moves.{unit-by}
-use Rattle.runs.specs.declared.reply.Progress.{Progress}
 use Rattle.runs.specs.declared.reply.Progress.the-variants as progress
 use Rattle.runs.specs.Runs.{progress-answer}
 use Rattle.replays.specs.declared.record.Order.{Order}
 use Rattle.replays.specs.declared.record.UnitRecord.{UnitRecord}
-use Rattle.replays.specs.Replay.{Done, Fault, fault-at, Read, Way, goes, stops, and-then, unless-refused, called, no-orders, barred, closed, give-order, give-standing, give-orders, replay-unit, replay-units, replayed}
-use Rattle.replays.specs.Spelling.{marks, pairs, order-calls, spelled, unit-calls, passing, Doing, Begun, Ended, Faithful}
+use Rattle.replays.specs.Replay.{Done, Read, Way, goes, stops, and-then, unless-refused, called, no-orders, barred, closed, give-order, give-standing, give-orders, replay-unit, replay-units, replayed}
+use Rattle.replays.specs.Spelling.{marks, pairs, order-calls, spelled, unit-calls, passing, Doing, Begun, Faithful}
 use Rattle.replays.proofs.Marks.{Clear, pairs-set, calls-set, marks-are}
 
 abbrev answer-of : UnitRecord → Answer

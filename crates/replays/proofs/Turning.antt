@@ -1,6 +1,6 @@
 -- One unit more of a schedule. Assumes nothing.
 use Prim.Native.Nat.{ℕ, zero, suc, _-_, _<_, _≤_}
-use mathlib.Core.Path.{_≡_, refl, sym, ap, _∙_}
+use mathlib.Core.Path.{_≡_, sym, ap, _∙_}
 use mathlib.Core.Bool.{true, false}
 use mathlib.Core.List.{List}
 use native.Mathlib.Omega.{arith}
@@ -8,7 +8,7 @@ use lib.ListN.{length}
 use Rattle.std.proofs.shelf.Tests.{cond-true, cond-false, lt-ltb, le-ltb}
 use Rattle.instances.specs.Instances.{Instance}
 use Rattle.tallies.specs.Tally.{finished}
-use Rattle.replays.specs.Replay.{Done, Fault, fault-at, Way, goes, stops, and-then, replay-unit, replay-units}
+use Rattle.replays.specs.Replay.{Done, Fault, fault-at, goes, stops, and-then, replay-unit, replay-units}
 
 module _ (w : Instance) (bytes : List ℕ) where
   pub units-go : (turns p q : ℕ) (d e : Done) → 0 < turns → finished w (d .state) ≡ false → replay-unit w bytes p d ≡ goes q e

@@ -1,6 +1,5 @@
 -- What a schedule makes of a run. Assumes nothing.
 use Prim.Native.Nat.{ℕ, zero, suc, _+_}
-use mathlib.Core.Path.{_≡_}
 use mathlib.Core.Bool.{Bool, cond, not, _&&_, _||_}
 use mathlib.Core.List.{List, [], _∷_, _++_}
 use lib.Dec.{eqb, leb, ltb}
@@ -15,7 +14,6 @@ use Rattle.instances.specs.Instances.{Instance, home}
 use Rattle.tallies.specs.declared.call.Call.{Call}
 use Rattle.tallies.specs.declared.call.Call.the-variants as call
 use Rattle.tallies.specs.Tally.{State, Answer, told, served, stalled, finished, order-outcome, answer, next}
-use Rattle.runs.specs.declared.reply.Progress.{Progress}
 use Rattle.runs.specs.declared.reply.Progress.the-variants as progress
 use Rattle.runs.specs.Runs.{run-fault}
 use Rattle.replays.specs.declared.record.Order.{Order}

@@ -15,7 +15,7 @@ use Rattle.tallies.specs.Tally.{State, Answer, told, served, stalled, finished,
 use Rattle.runs.specs.Runs.{progress-answer}
 use Rattle.replays.specs.declared.record.Order.{Order}
 use Rattle.replays.specs.declared.record.UnitRecord.{UnitRecord}
-use Rattle.replays.specs.Replay.{Done, Fault, Way, goes, stops}
+use Rattle.replays.specs.Replay.{Done, Way, goes, stops}
 
 -- the map byte of a unit: a bit for each disk that has an order
 abbrev pub marks : List (Option Order) → ℕ

@@ -19,7 +19,7 @@ use Rattle.runs.specs.declared.run.Run.{Run}
 use Rattle.runs.specs.Runs.{run-state}
 use Rattle.replays.specs.declared.turn.Transcript.{Transcript}
 use Rattle.replays.specs.declared.turn.Turn.{Turn}
-use Rattle.replays.specs.Replay.{Done, Read, Way, stops, replay-fault, unless-refused, called, give-order}
+use Rattle.replays.specs.Replay.{Done, Read, stops, replay-fault, unless-refused, called, give-order}
 
 abbrev pub done : {X : Type 0} → ArrayOf X → Run X → Transcript → Done
 done A r t = record { state = run-state A r; calls = vec-items (t .calls); units = vec-items (t .units) }

@@ -1,11 +1,10 @@
 // One unit of a schedule, read and given to a run.
-ghost use Prim.Native.Nat.{ℕ, suc, _+_, _<_, _≤_, _^_};
+ghost use Prim.Native.Nat.{_+_, _<_, _≤_};
 ghost use lib.Dec.{ltb};
 ghost use lib.ListN.{length, getD};
 ghost use mathlib.Core.Bool.{cond};
 ghost use mathlib.Core.Path.{_≡_};
 ghost use Rattle.std.specs.Results.{Cases};
-ghost use Rattle.std.specs.Vec.{made};
 ghost use Rattle.std.specs.declared.result.Result.the-variants.{Ok, Err};
 ghost use Rattle.maps.specs.Outcomes.{accepted};
 ghost use Rattle.tallies.specs.Tally.{order-outcome, answer};

@@ -2,11 +2,10 @@
 ghost use Prim.Native.Nat.{_<_};
 ghost use mathlib.Core.Path.{_≡_};
 ghost use Rattle.std.specs.Results.{Cases};
-ghost use Rattle.maps.specs.Outcomes.{accepted};
 ghost use Rattle.instances.specs.Instances.{asked, last, instance-of};
 ghost use Rattle.tallies.specs.Tally.{admit, any-busy, beginning, finished, ready, told, answer, next};
 ghost use Rattle.tallies.specs.declared.call.Call.the-variants.{Order as order-call, Unit as unit-call};
-ghost use Rattle.runs.specs.Runs.{run-instance, run-state, run-fault, outcome, unit-told, Spent};
+ghost use Rattle.runs.specs.Runs.{run-instance, run-state, outcome, unit-told};
 use crate::fault::RunFault;
 use crate::fault::RunFaultFromArrayFault;
 use crate::reply::Progress;

@@ -1,7 +1,7 @@
 -- A setting is filled exactly where its content is within the limits. Assumes nothing.
 use Prim.Native.Nat.{ℕ, zero, suc, _^_, _<_, _≤_}
-use mathlib.Core.Path.{_≡_, refl, sym, ap, _∙_}
-use mathlib.Core.Bool.{Bool, true, false, cond, _&&_, _||_}
+use mathlib.Core.Path.{_≡_, refl, _∙_}
+use mathlib.Core.Bool.{_||_}
 use mathlib.Core.List.{List, [], _∷_}
 use mathlib.Core.Logic.{⊎-elim}
 use native.Mathlib.Omega.{arith}
@@ -10,7 +10,7 @@ use lib.Dec.{eqb, ltb}
 use lib.ListN.{length, getD}
 use Rattle.std.proofs.shelf.Lists.{getD-past}
 use Rattle.std.proofs.shelf.Tests.{or-parts, or-from, ltb-false, ltb-true, le-ltb, lt-ltb, eqb-true, eq-eqb, and-parts, and-from, cond-true, cond-false, cases-lt}
-use Rattle.maps.specs.Outcomes.{Outcome, accepted, refused, and-then}
+use Rattle.maps.specs.Outcomes.{accepted, and-then}
 use Rattle.maps.proofs.Outcomes.{and-then-parts, passed-test, held-test}
 use Rattle.settings.specs.declared.setting.Setting.{Setting}
 use Rattle.settings.specs.Contents.{Content, Within, content}

@@ -1,6 +1,6 @@
 -- When a setting is filled, and what refuses it. Assumes nothing.
 use Prim.Native.Nat.{ℕ, suc, _^_}
-use mathlib.Core.Bool.{cond, not, _&&_, _||_}
+use mathlib.Core.Bool.{cond, _&&_, _||_}
 use mathlib.Core.List.{List, [], _∷_}
 use mathlib.Core.Path.{_≡_}
 use lib.Count.{ones}

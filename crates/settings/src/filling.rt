@@ -1,11 +1,11 @@
 // A setting made, and filled in place.
-ghost use Prim.Native.Nat.{ℕ, _<_, _≤_};
-ghost use lib.ListN.{length, getD};
-ghost use mathlib.Core.List.{List, []};
+ghost use Prim.Native.Nat.{_<_, _≤_};
+ghost use lib.ListN.{length};
+ghost use mathlib.Core.List.{[]};
 ghost use mathlib.Core.Path.{_≡_};
 ghost use Rattle.std.specs.Vec.{made};
 ghost use Rattle.std.specs.Of.Vec.{vec-cap, vec-items};
-ghost use Rattle.settings.specs.Contents.{Content, content};
+ghost use Rattle.settings.specs.Contents.{content};
 ghost use Rattle.settings.specs.Filling.{outcome, try-figures, try-initial, try-requests, try-content, filled, Fills-within};
 use crate::fault::Figure;
 use crate::fault::SettingFault;

@@ -1,5 +1,4 @@
 // What a setting tells of itself.
-ghost use Prim.Native.Nat.{_<_, _≤_};
 ghost use lib.Dec.{ltb};
 ghost use lib.ListN.{getD, length};
 ghost use mathlib.Core.Bool.{cond};

@@ -1,7 +1,7 @@
 -- How long a fetch lasts. Assumes nothing.
-use Prim.Native.Nat.{ℕ, suc, _+_, _-_, _≤_, _<_}
+use Prim.Native.Nat.{ℕ, _+_, _-_, _≤_, _<_}
 use mathlib.Core.Path.{_≡_, refl, sym, ap, _∙_}
-use mathlib.Core.Bool.{true, false, _||_}
+use mathlib.Core.Bool.{true}
 use mathlib.Core.List.{List, [], _∷_}
 use mathlib.Core.Logic.{_⊎_, inl, inr, ⊎-elim}
 use native.Mathlib.Omega.{arith}
@@ -11,14 +11,14 @@ use lib.Seq.{getD-set-same, getD-set-other}
 use Rattle.std.proofs.shelf.Tests.{or-left, or-right, cases-eq, cond-false, ne-eqb}
 use Rattle.std.specs.declared.option.Option.the-variants.{Some, None}
 use Rattle.maps.specs.Maps.{has}
-use Rattle.maps.specs.Outcomes.{Outcome, accepted, refused}
+use Rattle.maps.specs.Outcomes.{accepted, refused}
 use Rattle.maps.proofs.Maps.{has-or, without-other}
 use Rattle.arrays.specs.Disks.{Disks, holds, step-disk, arrivals}
 use Rattle.arrays.proofs.Steps.{stepped-at}
 use Rattle.instances.specs.Instances.{Instance, Sound, home}
 use Rattle.tallies.specs.declared.call.Call.{Call}
 use Rattle.tallies.specs.declared.call.Call.the-variants as call
-use Rattle.tallies.specs.Tally.{State, Answer, told, served, stalled, order-outcome, passed, answer, next, after, tally}
+use Rattle.tallies.specs.Tally.{State, Answer, told, served, stalled, passed, answer, next, after, tally}
 use Rattle.tallies.specs.Logs.{Entry, log, serves, stalls, units, Evicts, Evicted, Unevicted}
 use Rattle.tallies.specs.Laws.{Lasts}
 use Rattle.tallies.proofs.Counting.{next-elapsed, after-elapsed}

@@ -1,6 +1,6 @@
 -- The tally of every list of calls is lawful. Assumes nothing.
 use mathlib.Core.Path.{_≡_, sym, ap, subst, _∙_}
-use mathlib.Core.List.{List, _∷_, _++_}
+use mathlib.Core.List.{List, _∷_}
 use Prim.Native.Nat.{ℕ}
 use Rattle.settings.specs.declared.setting.Setting.{Setting}
 use Rattle.settings.specs.Contents.{content}

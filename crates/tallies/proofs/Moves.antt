@@ -1,5 +1,5 @@
 -- What a call can make of a state: every law over runs rests on `move-by`. Assumes nothing.
-use Prim.Native.Nat.{ℕ, _+_, _≤_, _<_}
+use Prim.Native.Nat.{ℕ, _+_, _<_}
 use mathlib.Core.Path.{_≡_, refl, sym, ap, subst, _∙_}
 use mathlib.Core.Bool.{Bool, true, false, cond}
 use mathlib.Core.List.{List, [], _∷_}
@@ -16,7 +16,7 @@ use Rattle.arrays.specs.Disks.{holds, begin-outcome, begun, idle-outcome}
 use Rattle.instances.specs.Instances.{Instance, asked, home}
 use Rattle.tallies.specs.declared.call.Call.{Call}
 use Rattle.tallies.specs.declared.call.Call.the-variants as call
-use Rattle.tallies.specs.Tally.{State, Answer, told, served, stalled, finished, layout, admit, order-outcome, ordered, ready, unit-answer, unit-state, passed, answer, next}
+use Rattle.tallies.specs.Tally.{State, Answer, told, served, stalled, finished, layout, admit, order-outcome, ordered, unit-answer, unit-state, passed, answer, next}
 
 -- the state after an accepted order
 abbrev pub began : Instance → State → ℕ → ℕ → State

@@ -14,7 +14,7 @@ use Rattle.arrays.specs.Disks.{Disks, holds}
 use Rattle.instances.specs.Instances.{Instance, Sound, asked, home}
 use Rattle.tallies.specs.declared.call.Call.{Call}
 use Rattle.tallies.specs.declared.call.Call.the-variants as call
-use Rattle.tallies.specs.Tally.{State, Answer, told, served, stalled, beginning, answer, next, after, tally}
+use Rattle.tallies.specs.Tally.{State, Answer, told, served, stalled, beginning, answer, next, tally}
 use Rattle.tallies.specs.Logs.{Entry, log, serves, stalls, count, Evicted, Resident}
 
 -- time adds up: each unit that goes by serves a request or stalls

@@ -2,7 +2,7 @@ use mathlib.Core.Path.{ap, _∙_}
 use mathlib.Core.List.{_++_}
 use Rattle.std.specs.Joined.{joined}
 use Rattle.std.specs.Of.String.{string-bytes}
-use Rattle.std.proofs.shelf.Lists.{append-nil, take-all}
+use Rattle.std.proofs.shelf.Lists.{take-all}
 use Rattle.std.specs.declared.option.Option.the-variants.{None}
 use Rattle.listings.specs.Lines.{order-text}
 use Rattle.listings.proofs.Joining.{text-more}

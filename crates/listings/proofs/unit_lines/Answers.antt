@@ -3,7 +3,6 @@ use mathlib.Core.List.{[], _++_}
 use Rattle.std.specs.Joined.{joined}
 use Rattle.std.specs.Of.String.{string-bytes}
 use Rattle.std.proofs.shelf.Lists.{take-all}
-use Rattle.std.specs.declared.option.Option.the-variants.{None}
 use Rattle.runs.specs.declared.reply.Progress.the-variants.{Served}
 use Rattle.listings.specs.Lines.{unit-text}
 use Rattle.listings.proofs.Joining.{text-more}

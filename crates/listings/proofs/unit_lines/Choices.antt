@@ -1,4 +1,3 @@
-use mathlib.Core.List.{[], _++_}
 use mathlib.Core.Path.{_≡_}
 use lib.ListN.{take}
 use Rattle.std.specs.Joined.{joined}
