@@ -7,12 +7,12 @@ use crate::fetch::Fetch;
 
 // A disk is idle, or has a fetch under way.
 #[derive(Clone, Copy)]
-pub struct Disk {
-    pub fetch: Option<Fetch>,
+pub(crate) struct Disk {
+    pub(crate) fetch: Option<Fetch>,
 }
 
 // Begins a fetch on an idle disk; a busy one answers the block that it fetches, and does not change.
-pub fn start(disk: &mut Disk, block: u8, time: u8) -> Result<(), u8>
+pub(crate) fn start(disk: &mut Disk, block: u8, time: u8) -> Result<(), u8>
     ensures answers { λ r. ⌜ r ≡ start-answer (now (disk .entry) .fetch) ⌝ }
     ensures disk { λ _. ⌜ now (disk .exit) .fetch ≡ started (now (disk .entry) .fetch) block time ⌝ }
 {
@@ -24,7 +24,7 @@ pub fn start(disk: &mut Disk, block: u8, time: u8) -> Result<(), u8>
 }
 
 // One unit of time for a disk; answers the map of the block that it delivers.
-pub fn tick(disk: &mut Disk) -> u64
+pub(crate) fn tick(disk: &mut Disk) -> u64
     requires known { ⌜ block-of (now disk .fetch) < 64 ⌝ }
     requires under { ⌜ 1 ≤ left-of (now disk .fetch) ⌝ }
     ensures answers { λ r. ⌜ r ≡ delivered (now (disk .entry) .fetch) ⌝ }

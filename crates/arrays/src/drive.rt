@@ -19,6 +19,8 @@ const MOST_TIME: u8 = 64;
 
 const MOST_BLOCK: u8 = 63;
 
+const ONLY_DISK: u8 = 0;
+
 #[derive(Drop)]
 pub struct Drive {
     time: u8,
@@ -65,7 +67,7 @@ pub impl Placement for Drive as DrivePlacement {
     }
 
     fn home(&self, _block: u8) -> u8 {
-        0
+        ONLY_DISK
     }
 }
 
@@ -97,6 +99,10 @@ pub impl Array for Drive as DriveArray {
     }
 
     fn look(&self, disk: u8) -> Option<Fetch> {
-        if disk == 0 { self.disk.fetch } else { None }
+        if disk == ONLY_DISK {
+            self.disk.fetch
+        } else {
+            None
+        }
     }
 }

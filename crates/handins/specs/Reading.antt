@@ -27,6 +27,7 @@ pub record Fields (bytes : List ℕ) (p : PartOne) : Type 0 where
   pub fields : content-of p ≡ setting-in bytes
   pub time : p .time ≡ time-in bytes
   pub count : length (now (p .requests)) ≡ getD bytes 4 0
+  pub end : p .end ≡ requests-end bytes
   pub whole : requests-end bytes ≤ length bytes
 
 -- part 2 as it stands there

@@ -62,7 +62,7 @@ fn prepare<'a>(
 {
     let part = read_part_one(bytes)?;
     fill(&part, setting, drive)?;
-    cut_schedule(bytes, 13 + part.requests.len())
+    cut_schedule(bytes, part.end)
 }
 
 // What the replay said, with the place of the schedule.

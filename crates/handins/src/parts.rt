@@ -58,7 +58,7 @@ fn end_of_requests(bytes: &[u8]) -> Result<usize, HandInFault>
 }
 
 // Part 1, read whole.
-pub fn read_part_one(bytes: &[u8]) -> Result<PartOne<'_>, HandInFault>
+pub(crate) fn read_part_one(bytes: &[u8]) -> Result<PartOne<'_>, HandInFault>
     ensures tried { λ r. ⌜ tried r ≡ and-then (try-size (now (bytes .entry))) (and-then (try-map-byte (now (bytes .entry))) (try-whole (now (bytes .entry)))) ⌝ }
     ensures fields { λ r. ⌜ Cases r (λ p. Fields (now (bytes .entry)) p) (λ _. Unit {0}) ⌝ }
 {
@@ -70,11 +70,12 @@ pub fn read_part_one(bytes: &[u8]) -> Result<PartOne<'_>, HandInFault>
         time: bytes[3],
         initial: big_endian(&bytes[5..HEADER]),
         requests: &bytes[HEADER..end],
+        end,
     })
 }
 
 // Part 2, cut out whole behind its 2-byte length.
-pub fn cut_schedule(bytes: &[u8], at: usize) -> Result<Schedule<'_>, HandInFault>
+pub(crate) fn cut_schedule(bytes: &[u8], at: usize) -> Result<Schedule<'_>, HandInFault>
     requires { ⌜ at ≡ requests-end (now bytes) ⌝ ∗ ⌜ at ≤ length (now bytes) ⌝ }
     ensures tried { λ r. ⌜ tried r ≡ try-schedule (now (bytes .entry)) ⌝ }
     ensures cut { λ r. ⌜ Cases r (λ s. Cut (now (bytes .entry)) s) (λ _. Unit {0}) ⌝ }

@@ -167,7 +167,7 @@ fn unit_at<A: Array>(run: &mut Run<A>, log: &mut Transcript, turn: &Turn) -> Res
 }
 
 // A whole unit, whose map byte stands at `start`; answers the place behind it.
-pub fn replay_unit<A: Array>(
+pub(crate) fn replay_unit<A: Array>(
     run: &mut Run<A>,
     log: &mut Transcript,
     bytes: &[u8],
