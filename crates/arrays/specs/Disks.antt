@@ -1,6 +1,9 @@
 -- What the disks of an array have under way, and what begin and step make of it. Assumes nothing.
-use Rattle.std.specs.Prelude.{◌≡◌, ℕ, ◌-◌, ◌^◌, ◌<◌, ◌≤◌, cond, List, [], ◌∷◌, map, length, Some, None, Option, ◌==◌, bit_or, nat_lt, slice_index_or, slice_set}
+use Rattle.std.specs.Prelude.{◌≡◌, ℕ, ◌-◌, ◌^◌, ◌<◌, ◌≤◌, cond, ◌||◌, List, [], ◌∷◌, map, length, Some, None, Ok, Err, Option, Result, ◌==◌, bit_or, nat_lt, slice_index_or, slice_set}
 use Rattle.faults.specs.Outcomes.{Outcome, accepted, refused}
+use Rattle.faults.specs.declared.array.ArrayFault.{ArrayFault}
+use Rattle.faults.specs.declared.array.FillFault.{FillFault}
+use Rattle.faults.specs.Faults.{array_fault, fill_fault}
 use Rattle.arrays.specs.declared.fetch.Fetch.{Fetch}
 use Rattle.arrays.specs.Layouts.{Layout, home}
 
@@ -24,6 +27,10 @@ pub record Working (count time : ℕ) (disks : Disks) : Type 0 where
   pub four : length disks ≡ 4
   pub fetching : (d : ℕ) → Fetching time (holds disks d)
   pub beyond : (d : ℕ) → count ≤ d → holds disks d ≡ None
+
+abbrev pub outcome : {X : Type 0} → Result X ArrayFault → Outcome
+outcome (Ok x) = accepted
+outcome (Err e) = array_fault e
 
 -- a fetch begins on disk d unless that has one under way
 abbrev pub idle_outcome : ℕ → Option Fetch → Outcome
@@ -60,10 +67,14 @@ abbrev pub arrivals : Disks → ℕ
 arrivals [] = 0
 arrivals (o ∷ os) = bit_or (delivered o) (arrivals os)
 
+-- filling: the fetch time is 1 to 64
+abbrev pub filled : {X : Type 0} → Result X FillFault → Outcome
+filled (Ok x) = accepted
+filled (Err e) = fill_fault e
+
+abbrev pub try_time : ℕ → Outcome
+try_time time = cond (nat_lt time 1 || nat_lt 64 time) (refused 1 (4 ∷ [])) accepted
+
 -- the disks of an array that has but one
 abbrev pub alone : Option Fetch → Disks
 alone o = o ∷ None ∷ None ∷ None ∷ []
-
--- no disk has anything under way
-abbrev pub idle : Disks
-idle = alone None

@@ -1,7 +1,6 @@
 // A drive: an array of one disk.
 ghost use Rattle.std.specs.Prelude.{◌≡◌, ◌<◌, ◌≤◌, None, MatchResult};
-ghost use Rattle.arrays.specs.Disks.{alone};
-ghost use Rattle.arrays.specs.Filling.{try_time};
+ghost use Rattle.arrays.specs.Disks.{filled, try_time, alone};
 ghost use Rattle.arrays.specs.Layouts.{one_disk};
 ghost use Rattle.arrays.specs.Records.{block_of, left_of};
 ghost use Rattle.arrays.specs.Homes.{one_housed};
@@ -10,8 +9,11 @@ ghost use Rattle.std.proofs.Common.{rules, arith};
 use crate::array::{Array, Placement};
 use crate::disk::{Disk, start, tick};
 use crate::fetch::Fetch;
-use crate::filling::{MOST_BLOCK, try_time};
 use faults::{ArrayFault, FillFault};
+
+const MOST_TIME: u8 = 64;
+
+const MOST_BLOCK: u8 = 63;
 
 const ONLY_DISK: u8 = 0;
 
@@ -39,10 +41,12 @@ impl Drive {
 
     // Sets the fetch time and leaves the disk idle, or refuses and changes nothing.
     pub fn fill(&mut self, time: u8) -> Result<(), FillFault>
-        ensures answers { result ≡ try_time time }
+        ensures answers { filled result ≡ try_time time }
         ensures drive { MatchResult result (λ _. (self.new.time ≡ time) × (self.new.disk.fetch ≡ None)) (λ _. self.new ≡ self.old) }
     {
-        try_time(time)?;
+        if time < 1 || time > MOST_TIME {
+            return Err(FillFault::Time);
+        }
         *self = Drive {
             time,
             disk: Disk { fetch: None },

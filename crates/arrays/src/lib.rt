@@ -1,4 +1,6 @@
 // Arrays of disks: where the blocks live, how long a fetch takes, and which fetches are under way.
+#![tactic(auto)]
+
 mod array;
 mod bank;
 mod disk;

@@ -1,4 +1,6 @@
 // Marks the hand-ins in the files that the arguments name, and prints each file's name and its listing.
+#![tactic(auto)]
+
 use handins::mark_hand_in;
 use listings::listing;
 use std::{env, fs};

@@ -8,7 +8,7 @@ use Rattle.faults.specs.declared.setting.SettingFault.TheVariants as setting
 use Rattle.faults.specs.declared.array.ArrayFault.{ArrayFault}
 use Rattle.faults.specs.declared.array.ArrayFault.TheVariants as array
 use Rattle.faults.specs.declared.array.FillFault.{FillFault}
-use Rattle.faults.specs.declared.array.FillFault.TheVariants.{Time, Home}
+use Rattle.faults.specs.declared.array.FillFault.TheVariants.{Time}
 use Rattle.faults.specs.declared.run.RunFault.{RunFault}
 use Rattle.faults.specs.declared.run.RunFault.TheVariants as run
 use Rattle.faults.specs.declared.replay.ReplayFault.{ReplayFault}
@@ -18,7 +18,7 @@ use Rattle.faults.specs.declared.handin.HandInFault.TheVariants as handin
 use Rattle.faults.specs.declared.handin.Part.{Part}
 use Rattle.faults.specs.declared.handin.Part.TheVariants as part
 
--- each figure's number; the fetch time's is 4, a home's 5
+-- each figure's number; the fetch time's is 4
 abbrev pub figure : Figure → ℕ
 figure Blocks = 1
 figure Size = 2
@@ -32,7 +32,6 @@ setting_fault (setting.Request c) = refused 3 (c ∷ [])
 
 abbrev pub fill_fault : FillFault → Outcome
 fill_fault Time = refused 1 (4 ∷ [])
-fill_fault (Home b) = refused 1 (5 ∷ [])
 
 -- beginning a fetch
 abbrev pub array_fault : ArrayFault → Outcome
@@ -81,23 +80,18 @@ part_number part.Page = 3
 abbrev pub said_at : ℕ → ℕ → ℕ → Said
 said_at number part place = record { said = refused number (place ∷ []); part = part; place = place }
 
--- where the figures 1 to 3 stand: blocks, cache size, requests
+-- where the figures 1 to 4 stand: blocks, cache size, requests, fetch time
 abbrev pub figure_place : ℕ → ℕ
-figure_place figure = slice_index (0 ∷ 1 ∷ 2 ∷ 4 ∷ []) figure
+figure_place figure = slice_index (0 ∷ 1 ∷ 2 ∷ 4 ∷ 3 ∷ []) figure
 
 -- the place of a fault of part 1: of a figure, the initial map at 5, or request c at 12 + c
 abbrev pub field_place : ℕ → ℕ → ℕ
 field_place number value = cond (number == 1) (figure_place value) (cond (number == 2) 5 (12 + value))
 
--- what filling a setting said
+-- what filling a setting or an array said
 abbrev pub in_part_one : Outcome → Said
 in_part_one accepted = record { said = accepted; part = 1; place = 0 }
 in_part_one (refused n values) = record { said = refused n values; part = 1; place = field_place n (slice_index values 0) }
-
--- what filling an array said: the fetch time stands at 3, and the home of block b so many bytes behind the first home
-abbrev pub in_homes : ℕ → FillFault → Said
-in_homes start Time = record { said = fill_fault Time; part = 1; place = 3 }
-in_homes start (Home b) = record { said = fill_fault (Home b); part = 1; place = start + b }
 
 -- what the replay said of the schedule that starts here: its places count from the schedule's first byte, and 11 to 14 return one
 abbrev pub moved : ℕ → Outcome → Outcome
@@ -113,6 +107,6 @@ hand_in_fault handin.TooLong = said_at 14 1 65000
 hand_in_fault (handin.Short p place) = said_at 11 (part_number p) place
 hand_in_fault handin.MapByte = said_at 12 1 0
 hand_in_fault (handin.Setting e) = in_part_one (setting_fault e)
-hand_in_fault (handin.Array e) = in_homes e.start e.fault
+hand_in_fault (handin.Array e) = in_part_one (fill_fault e)
 hand_in_fault (handin.Schedule e) = in_schedule e.start (replay_fault e.fault)
 hand_in_fault (handin.LeftOver place) = said_at 14 3 place

@@ -15,8 +15,3 @@ and_then (refused n values) next = refused n values
 abbrev pub number_of : Outcome → ℕ
 number_of accepted = 0
 number_of (refused n values) = n
-
--- the outcome that a result tells, by what its fault says
-abbrev pub answered : {X E : Type 0} → (E → Outcome) → Result X E → Outcome
-answered said (Ok x) = accepted
-answered said (Err e) = said e

@@ -14,6 +14,4 @@ pub enum ArrayFault {
 pub enum FillFault {
     // the fetch time is not 1 to 64
     Time,
-    // the home of this block, the first such, is above 3
-    Home { block: u8 },
 }

@@ -14,13 +14,6 @@ pub enum Part {
     Page,
 }
 
-// What filling the array said, and the place in the hand-in where the homes start.
-#[derive(Clone, Copy, PartialEq, Eq, Debug)]
-pub struct HomesFault {
-    pub start: usize,
-    pub fault: FillFault,
-}
-
 // What the replay said, and the place in the hand-in where the schedule starts.
 #[derive(Clone, Copy, PartialEq, Eq, Debug)]
 pub struct ScheduleFault {
@@ -40,7 +33,7 @@ pub enum HandInFault {
     // the setting cannot be filled
     Setting(SettingFault),
     // the array cannot be filled
-    Array(HomesFault),
+    Array(FillFault),
     // the replay of the schedule stopped
     Schedule(ScheduleFault),
     // the first byte behind the last field
@@ -55,10 +48,10 @@ impl From<SettingFault> for HandInFault {
     }
 }
 
-impl From<HomesFault> for HandInFault {
+impl From<FillFault> for HandInFault {
     ghost from_gives = { λ e r. r ≡ in_array e };
 
-    fn from(fault: HomesFault) -> HandInFault {
+    fn from(fault: FillFault) -> HandInFault {
         HandInFault::Array(fault)
     }
 }

@@ -1,4 +1,6 @@
 // Every refusal, with the number and the values that it returns.
+#![tactic(auto)]
+
 mod array;
 mod handin;
 mod numbering;
@@ -7,7 +9,7 @@ mod run;
 mod setting;
 
 pub use array::{ArrayFault, FillFault};
-pub use handin::{HandInFault, HomesFault, Part, ScheduleFault};
+pub use handin::{HandInFault, Part, ScheduleFault};
 pub use replay::{Refused, ReplayFault};
 pub use run::RunFault;
 pub use setting::{Figure, SettingFault};

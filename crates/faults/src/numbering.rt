@@ -1,10 +1,10 @@
 // The number under which each refusal is reported, its part and its place.
 ghost use Rattle.std.specs.Prelude.{◌≡◌, ◌-◌, ◌^◌, min};
-ghost use Rattle.faults.specs.Faults.{array_fault, figure, fill_fault, hand_in_fault, in_homes, in_part_one, part_number, replay_fault, run_fault, setting_fault};
+ghost use Rattle.faults.specs.Faults.{array_fault, figure, fill_fault, hand_in_fault, in_part_one, part_number, replay_fault, run_fault, setting_fault};
 ghost use Rattle.faults.specs.Outcomes.{number_of};
 
 use crate::array::{ArrayFault, FillFault};
-use crate::handin::{HandInFault, HomesFault, Part};
+use crate::handin::{HandInFault, Part};
 use crate::replay::ReplayFault;
 use crate::run::RunFault;
 use crate::setting::{Figure, SettingFault};
@@ -50,7 +50,6 @@ impl FillFault {
     {
         match self {
             FillFault::Time => 1,
-            FillFault::Home { .. } => 1,
         }
     }
 }
@@ -121,16 +120,6 @@ fn field_place(fault: &SettingFault) -> usize
     }
 }
 
-// The place of the fetch time or of the home at which filling an array failed; none is beyond the greatest number.
-fn home_place(fault: &HomesFault) -> usize
-    ensures { result ≡ min (in_homes fault.now.start fault.now.fault).place (2 ^ 64 - 1) }
-{
-    match fault.fault {
-        FillFault::Time => 3,
-        FillFault::Home { block } => fault.start.saturating_add(block as usize),
-    }
-}
-
 impl HandInFault {
     pub fn number(&self) -> u8
         ensures { result ≡ number_of (hand_in_fault self.now).said }
@@ -140,7 +129,7 @@ impl HandInFault {
             HandInFault::Short { .. } => 11,
             HandInFault::MapByte => 12,
             HandInFault::Setting(fault) => fault.number(),
-            HandInFault::Array(fault) => fault.fault.number(),
+            HandInFault::Array(fault) => fault.number(),
             HandInFault::Schedule(fault) => fault.fault.number(),
             HandInFault::LeftOver { .. } => 14,
         }
@@ -169,7 +158,7 @@ impl HandInFault {
             HandInFault::Short { place, .. } => *place,
             HandInFault::MapByte => 0,
             HandInFault::Setting(fault) => field_place(fault),
-            HandInFault::Array(fault) => home_place(fault),
+            HandInFault::Array(_) => 3,
             HandInFault::Schedule(fault) => fault.start.saturating_add(fault.fault.place()),
             HandInFault::LeftOver { place } => *place,
         }

@@ -1,13 +1,11 @@
 -- Where the fields of a hand-in stand, and the tests that they pass. Assumes nothing.
-use Rattle.std.specs.Prelude.{ℕ, ◌+◌, ◌-◌, Bool, cond, List, ◌++◌, length, take, drop, replicate, ◌==◌, nat_lt, slice_index}
+use Rattle.std.specs.Prelude.{ℕ, ◌+◌, cond, List, length, take, drop, ◌==◌, nat_lt, slice_index}
 use Rattle.std.specs.Int.Digits.{number_from_digits}
-use Rattle.maps.specs.Maps.{has}
 use Rattle.settings.specs.Contents.{Content}
 use Rattle.settings.specs.Filling.{try_figures, try_content}
-use Rattle.arrays.specs.Filling.{spread, try_bank, try_time}
-use Rattle.arrays.specs.Layouts.{Layout, one_disk}
+use Rattle.arrays.specs.Disks.{try_time}
 use Rattle.faults.specs.Faults.{said_at}
-use Rattle.handins.specs.Tests.{Tried, passes, fails, and_then, filled, housed}
+use Rattle.handins.specs.Tests.{Tried, passes, fails, and_then, filled}
 
 module _ (bytes : List ℕ) where
   -- blocks at 1, cache size at 2, fetch time at 3, the number of requests at 4, the initial map at 5 to 12, then the requests
@@ -22,33 +20,15 @@ module _ (bytes : List ℕ) where
   abbrev pub time_in : ℕ
   time_in = slice_index bytes 3
 
-  -- bit 0 of the map byte says that the homes of all blocks stand behind the last request
-  abbrev pub has_homes : Bool
-  has_homes = has (slice_index bytes 0) 0
-
+  -- the schedule stands behind its 2-byte length, which comes behind the last request
   abbrev pub requests_end : ℕ
   requests_end = 13 + slice_index bytes 4
 
-  abbrev pub homes_end : ℕ
-  homes_end = requests_end + cond has_homes (slice_index bytes 1) 0
-
-  abbrev pub homes_in : List ℕ
-  homes_in = take (slice_index bytes 1) (drop requests_end bytes)
-
-  -- numbers above the last block's live on disk 0
-  abbrev pub all_homes : List ℕ
-  all_homes = homes_in ++ replicate (64 - length homes_in) 0
-
-  -- without homes there is one disk
-  abbrev pub layout_in : Layout
-  layout_in = cond has_homes (spread all_homes) one_disk
-
-  -- the schedule stands behind its 2-byte length
   abbrev pub schedule_start : ℕ
-  schedule_start = homes_end + 2
+  schedule_start = requests_end + 2
 
   abbrev pub schedule_length : ℕ
-  schedule_length = number_from_digits 256 (take 2 (drop homes_end bytes))
+  schedule_length = number_from_digits 256 (take 2 (drop requests_end bytes))
 
   abbrev pub schedule_end : ℕ
   schedule_end = schedule_start + schedule_length
@@ -56,26 +36,21 @@ module _ (bytes : List ℕ) where
   abbrev pub schedule_in : List ℕ
   schedule_in = take schedule_length (drop schedule_start bytes)
 
-  -- at most 65,000 bytes; then a map byte, with no bit but that of the homes
+  -- at most 65,000 bytes; then a map byte, with no bit in it
   abbrev pub try_size : Tried
   try_size = cond (nat_lt 65000 (length bytes)) (fails (said_at 14 1 65000)) passes
 
   abbrev pub try_map_byte : Tried
-  try_map_byte = cond (length bytes == 0) (fails (said_at 11 1 0)) (cond (nat_lt 1 (slice_index bytes 0)) (fails (said_at 12 1 0)) passes)
+  try_map_byte = cond (length bytes == 0) (fails (said_at 11 1 0)) (cond (slice_index bytes 0 == 0) passes (fails (said_at 12 1 0)))
 
-  -- part 1 up to its last byte
+  -- part 1 up to its last request
   abbrev pub try_whole : Tried
-  try_whole = cond (nat_lt (length bytes) homes_end) (fails (said_at 11 1 (length bytes))) passes
+  try_whole = cond (nat_lt (length bytes) requests_end) (fails (said_at 11 1 (length bytes))) passes
 
-  abbrev pub try_front : Tried
-  try_front = and_then try_size (and_then try_map_byte try_whole)
-
-  -- its figures: blocks, cache size, requests; then the fetch time and the homes
-  abbrev pub try_figures_in : Tried
-  try_figures_in = filled (try_figures (slice_index bytes 1) (slice_index bytes 2) (slice_index bytes 4))
-
-  abbrev pub try_array : Tried
-  try_array = and_then try_figures_in (housed requests_end (cond has_homes (try_bank time_in all_homes) (try_time time_in)))
+  -- its figures, blocks, cache size, requests, fetch time; then the initial map and the requests
+  abbrev pub try_fields : Tried
+  try_fields =
+      and_then (filled (try_figures (slice_index bytes 1) (slice_index bytes 2) (slice_index bytes 4))) (and_then (filled (try_time time_in)) (filled (try_content setting_in)))
 
   -- part 2 up to its last byte, and nothing behind it
   abbrev pub try_schedule : Tried
@@ -84,10 +59,6 @@ module _ (bytes : List ℕ) where
   abbrev pub try_rest : Tried
   try_rest = cond (nat_lt schedule_end (length bytes)) (fails (said_at 14 3 schedule_end)) passes
 
-  -- the initial map and the requests, then part 2
-  abbrev pub try_body : Tried
-  try_body = and_then (filled (try_content setting_in)) try_schedule
-
   -- all that comes before the replay
   abbrev pub try_parts : Tried
-  try_parts = and_then try_front (and_then try_array try_body)
+  try_parts = and_then try_size (and_then try_map_byte (and_then try_whole (and_then try_fields try_schedule)))

@@ -1,6 +1,7 @@
 -- The report on a hand-in. Assumes nothing.
-use Rattle.std.specs.Prelude.{◌≡◌, ℕ, List, [], vec_items}
-use Rattle.arrays.specs.Disks.{idle}
+use Rattle.std.specs.Prelude.{◌≡◌, ℕ, List, [], None, vec_items}
+use Rattle.arrays.specs.Disks.{Disks, alone}
+use Rattle.arrays.specs.Layouts.{one_disk}
 use Rattle.instances.specs.Instances.{Instance, instance}
 use Rattle.tallies.specs.Laws.{Lawful}
 use Rattle.tallies.specs.Tally.{State, beginning, tally}
@@ -11,7 +12,7 @@ use Rattle.handins.specs.declared.report.Counts.{Counts}
 use Rattle.handins.specs.declared.report.Report.{Report}
 use Rattle.faults.specs.Faults.{in_schedule}
 use Rattle.handins.specs.Tests.{Tried, passes, fails, tried}
-use Rattle.handins.specs.Fields.{setting_in, time_in, layout_in, schedule_start, schedule_in, try_parts, try_rest}
+use Rattle.handins.specs.Fields.{setting_in, time_in, schedule_start, schedule_in, try_parts, try_rest}
 
 -- the units that ran, the run's counts, and how the marking ended
 pub record Marked : Type 0 where
@@ -28,9 +29,12 @@ no_counts = record { cursor = 0; elapsed = 0; stall = 0; orders = 0 }
 abbrev pub counts_of : State → Counts
 counts_of s = record { cursor = s.cursor; elapsed = s.elapsed; stall = s.stall; orders = s.orders }
 
--- the instance of a hand-in, and what its schedule makes of a run above idle disks
+-- the instance of a hand-in, on one idle drive, and what its schedule makes of a run
 abbrev pub instance_in : List ℕ → Instance
-instance_in bytes = instance (setting_in bytes) (layout_in bytes) (time_in bytes)
+instance_in bytes = instance (setting_in bytes) one_disk (time_in bytes)
+
+abbrev pub idle : Disks
+idle = alone None
 
 abbrev pub replay_in : List ℕ → Way (Unit {0})
 replay_in bytes = replayed (instance_in bytes) (beginning (instance_in bytes) idle) (schedule_in bytes)

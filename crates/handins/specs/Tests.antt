@@ -1,8 +1,7 @@
 -- The tests of a hand-in. Assumes nothing.
-use Rattle.std.specs.Prelude.{ℕ, Ok, Err, Result}
+use Rattle.std.specs.Prelude.{Ok, Err, Result}
 use Rattle.faults.specs.declared.handin.HandInFault.{HandInFault}
-use Rattle.faults.specs.declared.array.FillFault.{FillFault}
-use Rattle.faults.specs.Faults.{Said, hand_in_fault, in_homes, in_part_one}
+use Rattle.faults.specs.Faults.{Said, hand_in_fault, in_part_one}
 use Rattle.faults.specs.Outcomes.{Outcome, accepted, refused}
 
 -- a test of a hand-in passes, or fails with what is said
@@ -19,12 +18,6 @@ abbrev pub tried : {X : Type 0} → Result X HandInFault → Tried
 tried (Ok x) = passes
 tried (Err e) = fails (hand_in_fault e)
 
--- what filling the setting said
 abbrev pub filled : Outcome → Tried
 filled accepted = passes
 filled (refused n values) = fails (in_part_one (refused n values))
-
--- what filling the array said, of a hand-in whose homes start here
-abbrev pub housed : ℕ → Result (Unit {0}) FillFault → Tried
-housed start (Ok x) = passes
-housed start (Err e) = fails (in_homes start e)

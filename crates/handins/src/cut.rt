@@ -1,6 +1,6 @@
 // What is read of a hand-in before it is tried.
 
-// The figures, the initial map, the requests and, if they stand there, the homes of a hand-in.
+// The figures, the initial map and the requests of a hand-in.
 #[derive(Drop)]
 pub(crate) struct PartOne<'a> {
     pub(crate) blocks: u8,
@@ -8,9 +8,7 @@ pub(crate) struct PartOne<'a> {
     pub(crate) time: u8,
     pub(crate) initial: u64,
     pub(crate) requests: &'a [u8],
-    pub(crate) homes: Option<&'a [u8]>,
-    // the places behind the last request and behind the last home
-    pub(crate) start: usize,
+    // the place behind the last request
     pub(crate) end: usize,
 }
 

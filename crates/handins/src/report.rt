@@ -3,7 +3,7 @@ use faults::HandInFault;
 use schedules::UnitRecord;
 
 // The counts of a run; all are 0 where no run was made.
-#[derive(Clone, Copy)]
+#[derive(Clone, Copy, PartialEq, Eq, Debug)]
 pub struct Counts {
     pub cursor: u8,
     pub elapsed: u16,

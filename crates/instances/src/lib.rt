@@ -1,4 +1,6 @@
 // The instance that a setting and an array make: all that does not change while a run goes on.
+#![tactic(auto)]
+
 ghost use Rattle.instances.specs.Instances.{Sound, instance_of};
 
 use arrays::Array;

@@ -1,4 +1,6 @@
 // The text that tells of a hand-in.
+#![tactic(auto)]
+
 ghost use Rattle.std.specs.Prelude.{◌≡◌, ◌++◌, IfOk, string_bytes, OnOk};
 ghost use Rattle.std.specs.List.{flat_map};
 ghost use Rattle.faults.specs.Faults.{hand_in_fault};

@@ -1,4 +1,6 @@
 // Sets of blocks and of disks as 64-bit maps: bit b, bit 0 lowest, stands for block or disk b.
+#![tactic(auto)]
+
 ghost use Rattle.std.specs.Prelude.{◌≡◌, ℕ, ◌^◌, ◌<◌, true, not, ◌&&◌, ◌||◌, ltb, if◌then◌else◌, ◌==◌, count_ones, nat_lt};
 ghost use Rattle.maps.specs.Maps.{has, with, without, total};
 

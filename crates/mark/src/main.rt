@@ -1,4 +1,6 @@
 // Marks the hand-in that stands on standard input, and prints a line for each unit that ran, and the last line.
+#![tactic(auto)]
+
 use handins::mark_hand_in;
 use listings::listing;
 use std::io::Read;

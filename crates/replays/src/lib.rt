@@ -1,4 +1,6 @@
 // Schedules: bytes that say which orders and units to give to a run.
+#![tactic(auto)]
+
 mod reading;
 mod replaying;
 mod turn;

@@ -1,4 +1,6 @@
 // Runs: a setting and an array of disks, and the calls given to them.
+#![tactic(auto)]
+
 mod performing;
 mod reading;
 mod run;

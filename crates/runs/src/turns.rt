@@ -1,12 +1,10 @@
 // Runs made, and the calls that change them: order and unit.
 ghost use Rattle.std.specs.Prelude.{◌≡◌, ◌<◌, IfOk};
-ghost use Rattle.faults.specs.Faults.{run_fault};
-ghost use Rattle.faults.specs.Outcomes.{answered};
 ghost use Rattle.instances.specs.Instances.{asked, last, instance_of};
 ghost use Rattle.tallies.specs.Tally.{admit, any_busy, beginning, finished, ready, told, answer, next};
 ghost use Rattle.tallies.specs.declared.call.Call.TheVariants.{Order as order_call, Unit as unit_call};
 ghost use Rattle.tallies.specs.Replies.{unit_told};
-ghost use Rattle.runs.specs.Runs.{run_instance, run_state};
+ghost use Rattle.runs.specs.Runs.{run_instance, run_state, outcome};
 
 use crate::run::Run;
 use arrays::Array;
@@ -56,7 +54,7 @@ impl<A: Array> Run<A> {
 
     // An order's own tests, all that come before the array is asked.
     fn admit(&self, fetch: u8, evict: u8) -> Result<(), RunFault>
-        ensures { answered run_fault result ≡ admit (run_instance A.Placement A.Array self.now) (run_state A.Array self.now) fetch evict }
+        ensures { outcome result ≡ admit (run_instance A.Placement A.Array self.now) (run_state A.Array self.now) fetch evict }
     {
         if self.void {
             return Err(RunFault::Void);
@@ -84,7 +82,7 @@ impl<A: Array> Run<A> {
 
     // Begins a fetch of one block; the other leaves the cache in the same moment.
     pub fn order(&mut self, fetch: u8, evict: u8) -> Result<(), RunFault>
-        ensures answers { told (answered run_fault result) ≡ answer (run_instance A.Placement A.Array self.old) (run_state A.Array self.old) (order_call fetch evict) }
+        ensures answers { told (outcome result) ≡ answer (run_instance A.Placement A.Array self.old) (run_state A.Array self.old) (order_call fetch evict) }
         ensures state { run_state A.Array self.new ≡ next (run_instance A.Placement A.Array self.old) (run_state A.Array self.old) (order_call fetch evict) }
         ensures instance { run_instance A.Placement A.Array self.new ≡ run_instance A.Placement A.Array self.old }
     {
@@ -97,7 +95,7 @@ impl<A: Array> Run<A> {
 
     // A unit's own tests; answers the block asked for.
     fn ready(&self) -> Result<u8, RunFault>
-        ensures answers { answered run_fault result ≡ ready (run_instance A.Placement A.Array self.now) (run_state A.Array self.now) }
+        ensures answers { outcome result ≡ ready (run_instance A.Placement A.Array self.now) (run_state A.Array self.now) }
         ensures asked { IfOk result (λ b. (b ≡ asked (run_instance A.Placement A.Array self.now) self.now.cursor) × (self.now.cursor < last (run_instance A.Placement A.Array self.now)) × (self.now.elapsed < 65535)) }
     {
         if self.void {

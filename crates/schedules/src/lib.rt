@@ -1,4 +1,6 @@
 // Schedules: bytes that say which orders and units to give to a run, and what they come to by the rules alone.
+#![tactic(auto)]
+
 ghost use Rattle.schedules.specs.Spelling.{ReplaysFaithful};
 
 mod record;

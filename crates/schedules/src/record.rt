@@ -2,7 +2,7 @@
 use tallies::Progress;
 
 // An accepted order: the block to fetch and the block to evict.
-#[derive(Clone, Copy)]
+#[derive(Clone, Copy, PartialEq, Eq, Debug)]
 pub struct Order {
     pub fetch: u8,
     pub evict: u8,

@@ -1,9 +1,7 @@
 // A setting made, and filled in place.
 ghost use Rattle.std.specs.Prelude.{◌≡◌, ◌<◌, ◌≤◌, [], length, IfOk, vec_capacity};
-ghost use Rattle.faults.specs.Faults.{setting_fault};
-ghost use Rattle.faults.specs.Outcomes.{answered};
 ghost use Rattle.settings.specs.Contents.{content};
-ghost use Rattle.settings.specs.Filling.{try_figures, try_initial, try_requests, try_content, filled, FillsWithin};
+ghost use Rattle.settings.specs.Filling.{outcome, try_figures, try_initial, try_requests, try_content, filled, FillsWithin};
 
 use crate::setting::Setting;
 use faults::{Figure, SettingFault};
@@ -16,7 +14,7 @@ const MOST_REQUESTS: usize = 200;
 
 // Whether the initial map is `size` of the blocks.
 fn try_initial(blocks: u8, size: u8, initial: u64) -> Result<(), SettingFault>
-    ensures { answered setting_fault result ≡ try_initial blocks size initial }
+    ensures { outcome result ≡ try_initial blocks size initial }
 {
     let count = ones(initial);
     if within(initial, blocks) && count == size {
@@ -28,7 +26,7 @@ fn try_initial(blocks: u8, size: u8, initial: u64) -> Result<(), SettingFault>
 // Whether every request names one of the blocks.
 fn try_requests(blocks: u8, requests: &[u8]) -> Result<(), SettingFault>
     requires { length requests.now ≤ 200 }
-    ensures { answered setting_fault result ≡ try_requests blocks 1 requests.now }
+    ensures { outcome result ≡ try_requests blocks 1 requests.now }
 {
     for (i, block) in requests.iter().enumerate() {
         if *block >= blocks {
@@ -42,7 +40,7 @@ fn try_requests(blocks: u8, requests: &[u8]) -> Result<(), SettingFault>
 
 // Tries all that a setting is filled with: figures, initial map, requests.
 fn try_content(blocks: u8, size: u8, initial: u64, requests: &[u8]) -> Result<(), SettingFault>
-    ensures { answered setting_fault result ≡ try_content (record { blocks = blocks; size = size; initial = initial; requests = requests.now }) }
+    ensures { outcome result ≡ try_content (record { blocks = blocks; size = size; initial = initial; requests = requests.now }) }
 {
     Setting::try_figures(blocks, size, requests.len())?;
     try_initial(blocks, size, initial)?;
@@ -75,7 +73,7 @@ impl Setting {
 
     // Tries the figures alone: the number of blocks, the cache's size, the number of requests.
     pub fn try_figures(blocks: u8, size: u8, requests: usize) -> Result<(), SettingFault>
-        ensures { answered setting_fault result ≡ try_figures blocks size requests }
+        ensures { outcome result ≡ try_figures blocks size requests }
     {
         if blocks < 1 || blocks > MOST_BLOCKS {
             return Err(SettingFault::Figure(Figure::Blocks));
@@ -97,9 +95,9 @@ impl Setting {
         initial: u64,
         requests: &[u8],
     ) -> Result<(), SettingFault>
-        ensures answers { answered setting_fault result ≡ try_content (record { blocks = blocks; size = size; initial = initial; requests = requests.now }) }
-        ensures limits { FillsWithin (record { blocks = blocks; size = size; initial = initial; requests = requests.now }) (answered setting_fault result) }
-        ensures content { content self.new ≡ filled (answered setting_fault result) (record { blocks = blocks; size = size; initial = initial; requests = requests.now }) (content self.old) }
+        ensures answers { outcome result ≡ try_content (record { blocks = blocks; size = size; initial = initial; requests = requests.now }) }
+        ensures limits { FillsWithin (record { blocks = blocks; size = size; initial = initial; requests = requests.now }) (outcome result) }
+        ensures content { content self.new ≡ filled (outcome result) (record { blocks = blocks; size = size; initial = initial; requests = requests.now }) (content self.old) }
     {
         try_content(blocks, size, initial, requests)?;
         replace_requests(&mut self.requests, requests);

@@ -1,4 +1,6 @@
 // The setting of a run: the blocks, the cache's size, the initial cache and the requests.
+#![tactic(auto)]
+
 mod filling;
 mod reading;
 mod setting;

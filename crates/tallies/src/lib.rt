@@ -1,4 +1,6 @@
 // The calls that a run is given, and their tally: what they come to by the rules alone.
+#![tactic(auto)]
+
 ghost use Rattle.tallies.specs.Laws.{TalliesLawful};
 
 mod call;

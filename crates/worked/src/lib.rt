@@ -1,4 +1,6 @@
 // Worked cases, with figures found by hand, run through the code.
+#![tactic(auto)]
+
 #[cfg(test)]
 mod handing;
 #[cfg(test)]

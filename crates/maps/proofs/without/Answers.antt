@@ -6,8 +6,8 @@ use Rattle.maps.specs.Maps.{has, without}
 use Rattle.maps.proofs.Maps.{has_within, has_without}
 use Rattle.maps.proofs.without.Goals as goal
 
-pub overflow-shl-result : goal.overflow-shl-result
-overflow-shl-result c = has_within 64 c.args.map c.args.block (omega arith) (sym c.if-has.ensures)
+pub overflow_shl-result : goal.overflow_shl-result
+overflow_shl-result c = has_within 64 c.args.map c.args.block (omega arith) (sym c.if-has.ensures)
 
 pub returns-then-has : goal.returns-then-has
 unfolding without

@@ -5,11 +5,11 @@ use Rattle.std.proofs.lemmas.Int.Digits.{number_more}
 use Rattle.std.proofs.lemmas.List.{take_all}
 use Rattle.maps.proofs.numbers.number_of.Goals as goal
 
-pub overflow-mul-value : goal.overflow-mul-value
-overflow-mul-value c = let i : c.loop-b.b-index ≤ 7 = omega arith in let p : 256 ^ c.loop-b.b-index ≤ 256 ^ 7 = pow-le-pow_right (lit< tt) i in omega arith
+pub overflow_mul-value : goal.overflow_mul-value
+overflow_mul-value c = let i : c.loop-b.b-index ≤ 7 = omega arith in let p : 256 ^ c.loop-b.b-index ≤ 256 ^ 7 = pow-le-pow_right (lit< tt) i in omega arith
 
-pub overflow-add-value : goal.overflow-add-value
-overflow-add-value c = let i : c.loop-b.b-index ≤ 7 = omega arith in let p : 256 ^ c.loop-b.b-index ≤ 256 ^ 7 = pow-le-pow_right (lit< tt) i in omega arith
+pub overflow_add-value : goal.overflow_add-value
+overflow_add-value c = let i : c.loop-b.b-index ≤ 7 = omega arith in let p : 256 ^ c.loop-b.b-index ≤ 256 ^ 7 = pow-le-pow_right (lit< tt) i in omega arith
 
 pub loop-b-preserved : goal.loop-b-preserved
 loop-b-preserved c =

@@ -2,7 +2,7 @@ use Rattle.std.proofs.Common.{ℕ, ◌<◌, List, length, get_or, sym, ap, ◌�
 use Rattle.std.proofs.lemmas.Result.{err_from_is_err_and}
 use Rattle.settings.specs.Contents.{Content}
 use Rattle.faults.specs.Faults.{setting_fault}
-use Rattle.faults.specs.Outcomes.{answered}
+use Rattle.settings.specs.Filling.{outcome}
 use Rattle.settings.specs.Filling.{FillsWithin}
 use Rattle.settings.proofs.Limits.{within, each_place, fills_within}
 use Rattle.settings.proofs.setting.Setting.fill.Goals as goal
@@ -44,5 +44,5 @@ pub returns-in-err-try-content : goal.returns-in-err-try-content
 returns-in-err-try-content c =
     let new : Content = record { blocks = c.args.blocks; size = c.args.size; initial = c.args.initial; requests = c.args.requests.now } in
     let p = err_from_is_err_and c.from-residual.result c.from-residual.ensures.1 in
-    let is = ap (answered setting_fault) p.1 ∙ ap setting_fault p.2 ∙ c.in-err-try-content.ensures in
+    let is = ap outcome p.1 ∙ ap setting_fault p.2 ∙ c.in-err-try-content.ensures in
     record { answers = is; limits = subst (FillsWithin new) (sym is) (fills_within new); content = search rules }
