@@ -2,9 +2,9 @@
 use Rattle.std.proofs.Common.{◌≡◌, ℕ, zero, suc, ◌+◌, ◌<◌, ◌≤◌, max, Bool, true, false, cond, ◌||◌, ltb, List, [], ◌∷◌, ◌++◌, length, get_or, take, Ok, Err, Result, ap, ◌∙◌, arith}
 use Rattle.std.proofs.lemmas.List.{take_more}
 use Rattle.std.proofs.lemmas.Bool.{ltb-false, or_parts}
-use Rattle.faults.specs.declared.array.FillFault.{FillFault}
-use Rattle.faults.specs.declared.array.FillFault.TheVariants.{Time}
-use Rattle.arrays.specs.Filling.{try_homes, try_time, greatest}
+use Rattle.faults.specs.declared.array.BankFault.{BankFault}
+use Rattle.faults.specs.declared.array.BankFault.TheVariants.{Time}
+use Rattle.arrays.specs.Filling.{try_homes, try_bank_time, greatest}
 
 pub below_greatest : (hs : List ℕ) (b : ℕ) → get_or hs b 0 ≤ greatest hs
 below_greatest [] b = omega arith
@@ -19,7 +19,7 @@ pub greatest_more : (hs : List ℕ) (i : ℕ) → i < length hs → greatest (ta
 greatest_more hs i h = ap greatest (take_more hs i 0 h) ∙ greatest_push (take i hs) (get_or hs i 0)
 
 -- a test that was passed
-passed : (t : Bool) (e : FillFault) (r : Result (Unit {0}) FillFault) → Ok tt ≡ cond t (Err e) r → (t ≡ false) × (Ok tt ≡ r)
+passed : (t : Bool) (e : BankFault) (r : Result (Unit {0}) BankFault) → Ok tt ≡ cond t (Err e) r → (t ≡ false) × (Ok tt ≡ r)
 passed true e r h = let z : ◌≡◌ {A = ℕ} 0 1 = cc in absurd (omega arith)
 passed false e r h = (λ i. false, h)
 
@@ -31,7 +31,7 @@ few_homes b (h ∷ hs) e =
     omega (arith, ltb-false 3 h here.0, few_homes (suc b) hs here.1)
 
 -- a fetch time that is accepted is 1 to 64
-pub time_limits : (time : ℕ) → Ok tt ≡ try_time time → (1 ≤ time) × (time ≤ 64)
+pub time_limits : (time : ℕ) → Ok tt ≡ try_bank_time time → (1 ≤ time) × (time ≤ 64)
 time_limits time e =
     let sides = or_parts (ltb time 1) (ltb 64 time) (passed (ltb time 1 || ltb 64 time) Time (Ok tt) e).0 in
     (ltb-false time 1 sides.0, ltb-false 64 time sides.1)

@@ -78,3 +78,7 @@ try_time time = cond (nat_lt time 1 || nat_lt 64 time) (refused 1 (4 ∷ [])) ac
 -- the disks of an array that has but one
 abbrev pub alone : Option Fetch → Disks
 alone o = o ∷ None ∷ None ∷ None ∷ []
+
+-- no disk has anything under way
+abbrev pub idle : Disks
+idle = alone None

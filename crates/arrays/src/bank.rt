@@ -13,7 +13,7 @@ use crate::array::{Array, Placement};
 use crate::fetch::Fetch;
 use crate::filling::{MOST_BLOCK, greatest, try_homes, try_time};
 use crate::table::Table;
-use faults::{ArrayFault, FillFault};
+use faults::{ArrayFault, BankFault};
 
 #[derive(Drop)]
 pub struct Bank {
@@ -48,7 +48,7 @@ impl Bank {
 
     // Sets the fetch time and the homes and leaves every disk idle, or refuses and changes nothing. There are as many
     // disks as the homes need.
-    pub fn fill(&mut self, time: u8, homes: &[u8; 64]) -> Result<(), FillFault>
+    pub fn fill(&mut self, time: u8, homes: &[u8; 64]) -> Result<(), BankFault>
         ensures answers { result ≡ try_bank time homes.now }
         ensures bank { MatchResult result (λ _. (self.new.time ≡ time) × (self.new.homes ≡ homes.now) × (self.new.count ≡ greatest homes.now + 1) × (contents self.new.table.disks ≡ idle)) (λ _. self.new ≡ self.old) }
     {

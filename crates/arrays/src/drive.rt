@@ -9,11 +9,8 @@ ghost use Rattle.std.proofs.Common.{rules, arith};
 use crate::array::{Array, Placement};
 use crate::disk::{Disk, start, tick};
 use crate::fetch::Fetch;
+use crate::filling::{MOST_BLOCK, MOST_TIME};
 use faults::{ArrayFault, FillFault};
-
-const MOST_TIME: u8 = 64;
-
-const MOST_BLOCK: u8 = 63;
 
 const ONLY_DISK: u8 = 0;
 

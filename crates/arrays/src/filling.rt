@@ -1,32 +1,32 @@
 // What an array may be filled with.
 ghost use Rattle.std.specs.Prelude.{◌≡◌};
-ghost use Rattle.arrays.specs.Filling.{try_time, try_homes, greatest};
+ghost use Rattle.arrays.specs.Filling.{try_bank_time, try_homes, greatest};
 
-use faults::FillFault;
+use faults::BankFault;
 
-const MOST_TIME: u8 = 64;
+pub(crate) const MOST_TIME: u8 = 64;
 
 const MOST_HOME: u8 = 3;
 
 pub(crate) const MOST_BLOCK: u8 = 63;
 
 // Whether a fetch may take this time.
-pub(crate) fn try_time(time: u8) -> Result<(), FillFault>
-    ensures { result ≡ try_time time }
+pub(crate) fn try_time(time: u8) -> Result<(), BankFault>
+    ensures { result ≡ try_bank_time time }
 {
     if time < 1 || time > MOST_TIME {
-        return Err(FillFault::Time);
+        return Err(BankFault::Time);
     }
     Ok(())
 }
 
 // Whether every home is a disk that there may be.
-pub(crate) fn try_homes(homes: &[u8; 64]) -> Result<(), FillFault>
+pub(crate) fn try_homes(homes: &[u8; 64]) -> Result<(), BankFault>
     ensures { result ≡ try_homes 0 homes.now }
 {
     for (block, home) in homes.iter().enumerate() {
         if *home > MOST_HOME {
-            return Err(FillFault::Home { block: block as u8 });
+            return Err(BankFault::Home { block: block as u8 });
         }
     }
     Ok(())

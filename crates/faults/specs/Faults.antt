@@ -9,6 +9,8 @@ use Rattle.faults.specs.declared.array.ArrayFault.{ArrayFault}
 use Rattle.faults.specs.declared.array.ArrayFault.TheVariants as array
 use Rattle.faults.specs.declared.array.FillFault.{FillFault}
 use Rattle.faults.specs.declared.array.FillFault.TheVariants.{Time}
+use Rattle.faults.specs.declared.array.BankFault.{BankFault}
+use Rattle.faults.specs.declared.array.BankFault.TheVariants as bank
 use Rattle.faults.specs.declared.run.RunFault.{RunFault}
 use Rattle.faults.specs.declared.run.RunFault.TheVariants as run
 use Rattle.faults.specs.declared.replay.ReplayFault.{ReplayFault}
@@ -32,6 +34,11 @@ setting_fault (setting.Request c) = refused 3 (c ∷ [])
 
 abbrev pub fill_fault : FillFault → Outcome
 fill_fault Time = refused 1 (4 ∷ [])
+
+-- filling a bank: a home's figure has the number 5
+abbrev pub bank_fault : BankFault → Outcome
+bank_fault bank.Time = refused 1 (4 ∷ [])
+bank_fault (bank.Home b) = refused 1 (5 ∷ [])
 
 -- beginning a fetch
 abbrev pub array_fault : ArrayFault → Outcome

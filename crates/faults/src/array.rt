@@ -15,3 +15,12 @@ pub enum FillFault {
     // the fetch time is not 1 to 64
     Time,
 }
+
+// Why a bank is not filled.
+#[derive(Clone, Copy, PartialEq, Eq, Debug)]
+pub enum BankFault {
+    // the fetch time is not 1 to 64
+    Time,
+    // the home of this block, the first such, is above 3
+    Home { block: u8 },
+}

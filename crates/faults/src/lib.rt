@@ -8,7 +8,7 @@ mod replay;
 mod run;
 mod setting;
 
-pub use array::{ArrayFault, FillFault};
+pub use array::{ArrayFault, BankFault, FillFault};
 pub use handin::{HandInFault, Part, ScheduleFault};
 pub use replay::{Refused, ReplayFault};
 pub use run::RunFault;

@@ -1,9 +1,9 @@
 // The number under which each refusal is reported, its part and its place.
 ghost use Rattle.std.specs.Prelude.{◌≡◌, ◌-◌, ◌^◌, min};
-ghost use Rattle.faults.specs.Faults.{array_fault, figure, fill_fault, hand_in_fault, in_part_one, part_number, replay_fault, run_fault, setting_fault};
+ghost use Rattle.faults.specs.Faults.{array_fault, bank_fault, figure, fill_fault, hand_in_fault, in_part_one, part_number, replay_fault, run_fault, setting_fault};
 ghost use Rattle.faults.specs.Outcomes.{number_of};
 
-use crate::array::{ArrayFault, FillFault};
+use crate::array::{ArrayFault, BankFault, FillFault};
 use crate::handin::{HandInFault, Part};
 use crate::replay::ReplayFault;
 use crate::run::RunFault;
@@ -50,6 +50,17 @@ impl FillFault {
     {
         match self {
             FillFault::Time => 1,
+        }
+    }
+}
+
+impl BankFault {
+    pub fn number(&self) -> u8
+        ensures { result ≡ number_of (bank_fault self.now) }
+    {
+        match self {
+            BankFault::Time => 1,
+            BankFault::Home { .. } => 1,
         }
     }
 }

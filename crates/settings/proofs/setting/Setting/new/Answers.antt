@@ -2,6 +2,5 @@ use lib.Count.{ones-ones}
 use Rattle.std.proofs.Common.{lit<, rules}
 use Rattle.settings.proofs.setting.Setting.new.Goals as goal
 
-pub invariant-of-result : goal.invariant-of-result
-invariant-of-result c =
-    (search rules, (search rules, (search rules, (search rules, (search rules, (ones-ones 1, (lit< tt, (search rules, (search rules, tt)))))))))
+pub invariant_of-result-clause-full : goal.invariant_of-result-clause-full
+invariant_of-result-clause-full c = ones-ones 1
