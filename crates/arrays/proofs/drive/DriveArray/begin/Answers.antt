@@ -10,8 +10,8 @@ returns-in-Ok c =
     let x = c.args.self.now in
     let b = c.args.block in
     record {
-      answers = start_accepted one_disk (alone x.disk.fetch) b x.time 0 c.if-block-gt-MOST-BLOCK.false (first_home b) c.in-Ok.ensures.answers;
-      disks = ap alone c.start.ensures.disk ∙ sym (start_disks one_disk (alone x.disk.fetch) b x.time 0 c.if-block-gt-MOST-BLOCK.false (first_home b));
+      answers = start_accepted one_disk (alone x.disk.fetch) b x.time 0 c.if-block-gt-MOST_BLOCK.false (first_home b) c.in-Ok.ensures.answers;
+      disks = ap alone c.start.ensures.disk ∙ sym (start_disks one_disk (alone x.disk.fetch) b x.time 0 c.if-block-gt-MOST_BLOCK.false (first_home b));
       layout = refl;
       time = refl;
     }
@@ -21,8 +21,8 @@ returns-in-Err c =
     let x = c.args.self.now in
     let b = c.args.block in
     record {
-      answers = start_refused one_disk (alone x.disk.fetch) b x.time 0 c.if-block-gt-MOST-BLOCK.false (first_home b) _ c.in-Err.ensures.answers;
-      disks = ap alone c.start.ensures.disk ∙ sym (start_disks one_disk (alone x.disk.fetch) b x.time 0 c.if-block-gt-MOST-BLOCK.false (first_home b));
+      answers = start_refused one_disk (alone x.disk.fetch) b x.time 0 c.if-block-gt-MOST_BLOCK.false (first_home b) _ c.in-Err.ensures.answers;
+      disks = ap alone c.start.ensures.disk ∙ sym (start_disks one_disk (alone x.disk.fetch) b x.time 0 c.if-block-gt-MOST_BLOCK.false (first_home b));
       layout = refl;
       time = refl;
     }
