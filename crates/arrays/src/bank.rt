@@ -68,7 +68,7 @@ impl Bank {
 impl Placement for Bank {
     ghost layout = { λ x. record { disks = x.count; homes = x.homes } };
 
-    ghost housed = { first_of (Prim.search rules, Prim.grind (arith, Self.row.coded.inj)) };
+    ghost housed = { Prim.search rules };
 
     fn disks(&self) -> u8 {
         self.count

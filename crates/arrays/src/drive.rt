@@ -71,7 +71,7 @@ impl Array for Drive {
 
     ghost held = { λ x. alone x.disk.fetch };
 
-    ghost working = { first_of (Prim.search rules, Prim.grind (arith, Self.row.coded.inj)) };
+    ghost working = { Prim.search rules };
 
     fn fetch_time(&self) -> u8 {
         self.time

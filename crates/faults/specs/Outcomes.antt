@@ -1,5 +1,5 @@
 -- What a call answers that may refuse. Assumes nothing.
-use Rattle.std.specs.Prelude.{ℕ, List, Ok, Err, Result}
+use Rattle.std.specs.Prelude.{ℕ, List}
 
 -- accepted, or refused: the refusal's number and the values that it returns
 pub data Outcome : Type 0 where

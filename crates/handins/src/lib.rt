@@ -7,5 +7,6 @@ mod marking;
 mod parts;
 mod report;
 
+pub use faults::{HandInFault, Part, ScheduleFault};
 pub use marking::mark_hand_in;
 pub use report::{Counts, Report};

@@ -5,4 +5,6 @@ mod reading;
 mod replaying;
 mod turn;
 
+pub use faults::{Refused, ReplayFault};
 pub use replaying::{Replayed, replay};
+pub use schedules::{Order, UnitRecord};

@@ -6,5 +6,7 @@ mod reading;
 mod run;
 mod turns;
 
+pub use faults::RunFault;
 pub use performing::{Performance, run_calls};
 pub use run::Run;
+pub use tallies::{Progress, Reply};

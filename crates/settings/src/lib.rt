@@ -5,4 +5,5 @@ mod filling;
 mod reading;
 mod setting;
 
+pub use faults::{Figure, SettingFault};
 pub use setting::Setting;

@@ -1,5 +1,4 @@
-use Rattle.std.proofs.Common.{◌≡◌, ℕ, ◌+◌, ◌<◌, ◌≤◌, false, is_some, sym, refl, ◌∙◌, arith, rules}
-use Rattle.arrays.specs.Filling.{greatest}
+use Rattle.std.proofs.Common.{◌≡◌, ◌+◌, ◌<◌, ◌≤◌, false, is_some, refl, arith}
 use Rattle.arrays.specs.Records.{block_of, left_of}
 use Rattle.arrays.specs.Tables.{contents}
 use Rattle.arrays.proofs.Spreads.{below_greatest, few_homes, time_limits}

@@ -1,4 +1,4 @@
-use Rattle.std.proofs.Common.{◌≡◌, ℕ, ◌<◌, ◌≤◌, false, is_some, refl, arith}
+use Rattle.std.proofs.Common.{◌≡◌, ◌<◌, ◌≤◌, false, is_some, refl, arith}
 use Rattle.arrays.specs.Layouts.{all_first}
 use Rattle.arrays.specs.Records.{block_of, left_of}
 use Rattle.arrays.specs.Tables.{contents}

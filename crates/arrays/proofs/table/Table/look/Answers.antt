@@ -1,4 +1,4 @@
-use Rattle.std.proofs.Common.{None, sym, ◌∙◌, arith}
+use Rattle.std.proofs.Common.{None, sym, arith}
 use Rattle.std.proofs.lemmas.List.{get_or_past, length-map}
 use Rattle.arrays.specs.declared.disk.Disk.{Disk}
 use Rattle.arrays.specs.Tables.{contents}

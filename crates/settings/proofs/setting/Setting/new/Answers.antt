@@ -1,5 +1,4 @@
 use lib.Count.{ones-ones}
-use Rattle.std.proofs.Common.{lit<, rules}
 use Rattle.settings.proofs.setting.Setting.new.Goals as goal
 
 pub invariant_of-result-clause-full : goal.invariant_of-result-clause-full
