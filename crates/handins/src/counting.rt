@@ -10,7 +10,7 @@ use runs::Run;
 impl Counts {
     // The counts of a run as they stand.
     pub fn of<A: Array>(run: &Run<A>) -> Counts
-        ensures { result ≡ counts_of (run_state A.Array run.now) }
+        ensures { result ≡ counts_of (run_state A.Array.own run.now) }
     {
         Counts {
             cursor: run.cursor(),

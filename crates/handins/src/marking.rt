@@ -82,7 +82,7 @@ fn mark_schedule<A: Array + Drop>(
     schedule: &Schedule,
     total: usize,
 ) -> Result<Report, AllocError>
-    ensures { IfOk result (λ x. reported x ≡ after_replay schedule.now.start (ending_by (Ok tt) schedule.now.start schedule.now.end total) (replayed (instance_of A.Placement A.Array setting array) (beginning (instance_of A.Placement A.Array setting array) (A.Array.held array)) schedule.now.bytes.now)) }
+    ensures { IfOk result (λ x. reported x ≡ after_replay schedule.now.start (ending_by (Ok tt) schedule.now.start schedule.now.end total) (replayed (instance_of A.Placement A.Array.own setting array) (beginning (instance_of A.Placement A.Array.own setting array) (A.Array.held array)) schedule.now.bytes.now)) }
 {
     let mut run = Run::new(setting, array);
     let Replayed {

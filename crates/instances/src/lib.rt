@@ -8,5 +8,5 @@ use settings::Setting;
 
 // Says nothing at run time: its contract is that every setting and every array, whoever wrote it, make a sound instance.
 pub fn instance_is_sound<A: Array>(setting: &Setting, array: &A)
-    ensures { Sound (instance_of A.Placement A.Array setting.now array.now) }
+    ensures { Sound (instance_of A.Placement A.Array.own setting.now array.now) }
 {}

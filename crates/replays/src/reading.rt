@@ -33,7 +33,7 @@ fn pair_at(bytes: &[u8], place: usize) -> Result<Order, ReplayFault>
 
 // Whether a disk's bit is not allowed, where it is to fetch this block.
 fn is_barred<A: Array>(run: &Run<A>, disk: u8, fetch: u8) -> bool
-    ensures { result ≡ barred (run_instance A.Placement A.Array run.now) disk fetch }
+    ensures { result ≡ barred (run_instance A.Placement A.Array.own run.now) disk fetch }
 {
     disk >= run.array().disks() || fetch < run.setting().blocks() && run.array().home(fetch) != disk
 }
@@ -46,9 +46,9 @@ fn order_at<A: Array>(
     order: Order,
 ) -> Result<(), Refused>
     requires { vec_len log.old.calls < vec_capacity log.old.calls }
-    ensures answers { MatchResult result (λ _. order_outcome (run_instance A.Placement A.Array run.old) (run_state A.Array run.old) order.fetch order.evict ≡ accepted) (λ e. (e.place ≡ place) × (order_outcome (run_instance A.Placement A.Array run.old) (run_state A.Array run.old) order.fetch order.evict ≡ run_fault e.fault)) }
-    ensures done { done A.Array run.new log.new ≡ called (run_instance A.Placement A.Array run.old) (order_call order.fetch order.evict) (done A.Array run.old log.old) }
-    ensures instance { run_instance A.Placement A.Array run.new ≡ run_instance A.Placement A.Array run.old }
+    ensures answers { MatchResult result (λ _. order_outcome (run_instance A.Placement A.Array.own run.old) (run_state A.Array.own run.old) order.fetch order.evict ≡ accepted) (λ e. (e.place ≡ place) × (order_outcome (run_instance A.Placement A.Array.own run.old) (run_state A.Array.own run.old) order.fetch order.evict ≡ run_fault e.fault)) }
+    ensures done { done A.Array.own run.new log.new ≡ called (run_instance A.Placement A.Array.own run.old) (order_call order.fetch order.evict) (done A.Array.own run.old log.old) }
+    ensures instance { run_instance A.Placement A.Array.own run.new ≡ run_instance A.Placement A.Array.own run.old }
     ensures noted { Noted log.old log.new }
 {
     log.calls.push_reserved(Call::Order {
@@ -63,7 +63,7 @@ fn order_at<A: Array>(
 
 // The order of a disk whose bit stands in the map byte: its two bytes are read, then the bit is tried.
 fn order_of<A: Array>(run: &Run<A>, turn: &Turn, disk: u8) -> Result<Order, ReplayFault>
-    ensures { Orders (run_instance A.Placement A.Array run.now) turn.now.bytes.now turn.now.start disk (read turn.now) result }
+    ensures { Orders (run_instance A.Placement A.Array.own run.now) turn.now.bytes.now turn.now.start disk (read turn.now) result }
 {
     let order = pair_at(turn.bytes, turn.place)?;
     if is_barred(run, disk, order.fetch) {
@@ -80,8 +80,8 @@ fn give_order<A: Array>(
     disk: u8,
 ) -> Result<(), ReplayFault>
     requires { Room (length turn.old.bytes.now) turn.old.place log.old }
-    ensures follows { give_order (run_instance A.Placement A.Array run.old) turn.old.bytes.now turn.old.start disk (read turn.old) (done A.Array run.old log.old) ≡ ends (read turn.new) result (done A.Array run.new log.new) }
-    ensures instance { run_instance A.Placement A.Array run.new ≡ run_instance A.Placement A.Array run.old }
+    ensures follows { give_order (run_instance A.Placement A.Array.own run.old) turn.old.bytes.now turn.old.start disk (read turn.old) (done A.Array.own run.old log.old) ≡ ends (read turn.new) result (done A.Array.own run.new log.new) }
+    ensures instance { run_instance A.Placement A.Array.own run.new ≡ run_instance A.Placement A.Array.own run.old }
     ensures turn { (turn.new.bytes.now ≡ turn.old.bytes.now) × (turn.new.start ≡ turn.old.start) × (turn.old.place ≤ turn.new.place) }
     ensures room { OnOk result (Room (length turn.old.bytes.now) turn.new.place log.new) }
 {
@@ -101,8 +101,8 @@ fn give_standing<A: Array>(
     disk: u8,
 ) -> Result<(), ReplayFault>
     requires { Room (length turn.old.bytes.now) turn.old.place log.old }
-    ensures follows { give_standing (run_instance A.Placement A.Array run.old) turn.old.bytes.now map turn.old.start disk (read turn.old) (done A.Array run.old log.old) ≡ ends (read turn.new) result (done A.Array run.new log.new) }
-    ensures instance { run_instance A.Placement A.Array run.new ≡ run_instance A.Placement A.Array run.old }
+    ensures follows { give_standing (run_instance A.Placement A.Array.own run.old) turn.old.bytes.now map turn.old.start disk (read turn.old) (done A.Array.own run.old log.old) ≡ ends (read turn.new) result (done A.Array.own run.new log.new) }
+    ensures instance { run_instance A.Placement A.Array.own run.new ≡ run_instance A.Placement A.Array.own run.old }
     ensures turn { (turn.new.bytes.now ≡ turn.old.bytes.now) × (turn.new.start ≡ turn.old.start) × (turn.old.place ≤ turn.new.place) }
     ensures room { OnOk result (Room (length turn.old.bytes.now) turn.new.place log.new) }
 {
@@ -121,8 +121,8 @@ fn give_orders<A: Array>(
     map: u8,
 ) -> Result<(), ReplayFault>
     requires { Room (length turn.old.bytes.now) turn.old.place log.old }
-    ensures follows { give_orders (run_instance A.Placement A.Array run.old) turn.old.bytes.now 8 map turn.old.start 0 (read turn.old) (done A.Array run.old log.old) ≡ ends (read turn.new) result (done A.Array run.new log.new) }
-    ensures instance { run_instance A.Placement A.Array run.new ≡ run_instance A.Placement A.Array run.old }
+    ensures follows { give_orders (run_instance A.Placement A.Array.own run.old) turn.old.bytes.now 8 map turn.old.start 0 (read turn.old) (done A.Array.own run.old log.old) ≡ ends (read turn.new) result (done A.Array.own run.new log.new) }
+    ensures instance { run_instance A.Placement A.Array.own run.new ≡ run_instance A.Placement A.Array.own run.old }
     ensures turn { (turn.new.bytes.now ≡ turn.old.bytes.now) × (turn.new.start ≡ turn.old.start) × (turn.old.place ≤ turn.new.place) }
     ensures room { OnOk result (Room (length turn.old.bytes.now) turn.new.place log.new) }
 {
@@ -135,8 +135,8 @@ fn give_orders<A: Array>(
 // Lets the unit go by, which counts whether it is refused or not, and keeps a record of it.
 fn unit_at<A: Array>(run: &mut Run<A>, log: &mut Transcript, turn: &Turn) -> Result<(), Refused>
     requires { Room (length turn.now.bytes.now) turn.now.place log.old }
-    ensures follows { closed turn.now.start (read turn.now) (answer (run_instance A.Placement A.Array run.old) (run_state A.Array run.old) unit_call) (called (run_instance A.Placement A.Array run.old) unit_call (done A.Array run.old log.old)) ≡ ends turn.now.place (by_run result) (done A.Array run.new log.new) }
-    ensures instance { run_instance A.Placement A.Array run.new ≡ run_instance A.Placement A.Array run.old }
+    ensures follows { closed turn.now.start (read turn.now) (answer (run_instance A.Placement A.Array.own run.old) (run_state A.Array.own run.old) unit_call) (called (run_instance A.Placement A.Array.own run.old) unit_call (done A.Array.own run.old log.old)) ≡ ends turn.now.place (by_run result) (done A.Array.own run.new log.new) }
+    ensures instance { run_instance A.Placement A.Array.own run.new ≡ run_instance A.Placement A.Array.own run.old }
     ensures room { Room (length turn.now.bytes.now) (turn.now.place + 1) log.new }
 {
     log.calls.push_reserved(Call::Unit);
@@ -165,8 +165,8 @@ pub(crate) fn replay_unit<A: Array>(
 ) -> Result<usize, ReplayFault>
     requires within { start ≤ length bytes.now }
     requires room { Room (length bytes.now) (start + 1) log.old }
-    ensures follows { replay_unit (run_instance A.Placement A.Array run.old) bytes.now start (done A.Array run.old log.old) ≡ way_of result (done A.Array run.new log.new) }
-    ensures instance { run_instance A.Placement A.Array run.new ≡ run_instance A.Placement A.Array run.old }
+    ensures follows { replay_unit (run_instance A.Placement A.Array.own run.old) bytes.now start (done A.Array.own run.old log.old) ≡ way_of result (done A.Array.own run.new log.new) }
+    ensures instance { run_instance A.Placement A.Array.own run.new ≡ run_instance A.Placement A.Array.own run.old }
     ensures onward { IfOk result (λ place. (start < place) × (place ≤ length bytes.now) × Room (length bytes.now) (place + 1) log.new) }
 {
     let Some(map) = bytes.get(start) else {

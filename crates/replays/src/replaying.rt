@@ -29,8 +29,8 @@ fn replay_units<A: Array>(
     bytes: &[u8],
 ) -> Result<(), ReplayFault>
     requires { Room (length bytes.now) 1 log.old }
-    ensures follows { replay_units (run_instance A.Placement A.Array run.old) bytes.now (suc (length bytes.now)) 0 (done A.Array run.old log.old) ≡ way_of result (done A.Array run.new log.new) }
-    ensures instance { run_instance A.Placement A.Array run.new ≡ run_instance A.Placement A.Array run.old }
+    ensures follows { replay_units (run_instance A.Placement A.Array.own run.old) bytes.now (suc (length bytes.now)) 0 (done A.Array.own run.old log.old) ≡ way_of result (done A.Array.own run.new log.new) }
+    ensures instance { run_instance A.Placement A.Array.own run.new ≡ run_instance A.Placement A.Array.own run.old }
 {
     let mut place = 0;
     while !run.is_finished() {
@@ -49,10 +49,10 @@ pub fn replay<A: Array>(
     run: &mut Run<A>,
     bytes: &[u8],
 ) -> Result<Replayed, AllocError>
-    ensures replayed { IfOk result (λ x. replayed (run_instance A.Placement A.Array run.old) (run_state A.Array run.old) bytes.now ≡ way_of x.ending (record { state = run_state A.Array run.new; calls = x.calls.items; units = x.units.items })) }
-    ensures faithful { Faithful (run_instance A.Placement A.Array run.old) (run_state A.Array run.old) bytes.now (replayed (run_instance A.Placement A.Array run.old) (run_state A.Array run.old) bytes.now) }
-    ensures instance { run_instance A.Placement A.Array run.new ≡ run_instance A.Placement A.Array run.old }
-    ensures untouched { OnErr result (run_state A.Array run.new ≡ run_state A.Array run.old) }
+    ensures replayed { IfOk result (λ x. replayed (run_instance A.Placement A.Array.own run.old) (run_state A.Array.own run.old) bytes.now ≡ way_of x.ending (record { state = run_state A.Array.own run.new; calls = x.calls.items; units = x.units.items })) }
+    ensures faithful { Faithful (run_instance A.Placement A.Array.own run.old) (run_state A.Array.own run.old) bytes.now (replayed (run_instance A.Placement A.Array.own run.old) (run_state A.Array.own run.old) bytes.now) }
+    ensures instance { run_instance A.Placement A.Array.own run.new ≡ run_instance A.Placement A.Array.own run.old }
+    ensures untouched { OnErr result (run_state A.Array.own run.new ≡ run_state A.Array.own run.old) }
 {
     let calls = Vec::with_capacity(heap, bytes.len())?;
     let units = Vec::with_capacity(heap, bytes.len())?;

@@ -15,9 +15,9 @@ use tallies::{Call, Reply};
 impl<A: Array> Run<A> {
     // Makes one call.
     pub fn call(&mut self, call: Call) -> Reply
-        ensures answers { reply_answer result ≡ answer (run_instance A.Placement A.Array self.old) (run_state A.Array self.old) call }
-        ensures state { run_state A.Array self.new ≡ next (run_instance A.Placement A.Array self.old) (run_state A.Array self.old) call }
-        ensures instance { run_instance A.Placement A.Array self.new ≡ run_instance A.Placement A.Array self.old }
+        ensures answers { reply_answer result ≡ answer (run_instance A.Placement A.Array.own self.old) (run_state A.Array.own self.old) call }
+        ensures state { run_state A.Array.own self.new ≡ next (run_instance A.Placement A.Array.own self.old) (run_state A.Array.own self.old) call }
+        ensures instance { run_instance A.Placement A.Array.own self.new ≡ run_instance A.Placement A.Array.own self.old }
     {
         match call {
             Call::Order { fetch, evict } => match self.order(fetch, evict) {
@@ -33,10 +33,10 @@ impl<A: Array> Run<A> {
 
     // Makes each call in turn, refused ones included, and answers the replies. Where memory is short, makes none.
     pub fn perform(&mut self, heap: Global, calls: &[Call]) -> Result<Vec<Reply>, AllocError>
-        ensures answers { IfOk result (λ v. map reply_answer v.items ≡ answers (run_instance A.Placement A.Array self.old) (run_state A.Array self.old) calls.now) }
-        ensures state { MatchResult result (λ _. run_state A.Array self.new ≡ after (run_instance A.Placement A.Array self.old) (run_state A.Array self.old) calls.now) (λ _. run_state A.Array self.new ≡ run_state A.Array self.old) }
-        ensures instance { run_instance A.Placement A.Array self.new ≡ run_instance A.Placement A.Array self.old }
-        ensures spent { Spent (run_instance A.Placement A.Array self.new) (run_state A.Array self.new) }
+        ensures answers { IfOk result (λ v. map reply_answer v.items ≡ answers (run_instance A.Placement A.Array.own self.old) (run_state A.Array.own self.old) calls.now) }
+        ensures state { MatchResult result (λ _. run_state A.Array.own self.new ≡ after (run_instance A.Placement A.Array.own self.old) (run_state A.Array.own self.old) calls.now) (λ _. run_state A.Array.own self.new ≡ run_state A.Array.own self.old) }
+        ensures instance { run_instance A.Placement A.Array.own self.new ≡ run_instance A.Placement A.Array.own self.old }
+        ensures spent { Spent (run_instance A.Placement A.Array.own self.new) (run_state A.Array.own self.new) }
     {
         let mut replies = Vec::with_capacity(heap, calls.len())?;
         for call in calls {
@@ -60,10 +60,10 @@ pub fn run_calls<A: Array + Drop>(
     array: A,
     calls: &[Call],
 ) -> Result<Performance<A>, AllocError>
-    ensures instance { IfOk result (λ p. run_instance A.Placement A.Array p.run ≡ instance_of A.Placement A.Array setting array) }
-    ensures state { IfOk result (λ p. run_state A.Array p.run ≡ tally (instance_of A.Placement A.Array setting array) (A.Array.held array) calls.now) }
-    ensures answers { IfOk result (λ p. map reply_answer p.replies.items ≡ answers (instance_of A.Placement A.Array setting array) (beginning (instance_of A.Placement A.Array setting array) (A.Array.held array)) calls.now) }
-    ensures laws { Lawful (instance_of A.Placement A.Array setting array) (A.Array.held array) calls.now }
+    ensures instance { IfOk result (λ p. run_instance A.Placement A.Array.own p.run ≡ instance_of A.Placement A.Array.own setting array) }
+    ensures state { IfOk result (λ p. run_state A.Array.own p.run ≡ tally (instance_of A.Placement A.Array.own setting array) (A.Array.held array) calls.now) }
+    ensures answers { IfOk result (λ p. map reply_answer p.replies.items ≡ answers (instance_of A.Placement A.Array.own setting array) (beginning (instance_of A.Placement A.Array.own setting array) (A.Array.held array)) calls.now) }
+    ensures laws { Lawful (instance_of A.Placement A.Array.own setting array) (A.Array.held array) calls.now }
 {
     let mut run = Run::new(setting, array);
     let replies = run.perform(heap, calls)?;

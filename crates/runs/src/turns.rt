@@ -28,8 +28,8 @@ fn is_busy<A: Array>(array: &A) -> bool
 impl<A: Array> Run<A> {
     // A run at its beginning; above an array with a fetch under way it is void.
     pub fn new(setting: Setting, array: A) -> Run<A>
-        ensures instance { run_instance A.Placement A.Array result ≡ instance_of A.Placement A.Array setting array }
-        ensures state { run_state A.Array result ≡ beginning (instance_of A.Placement A.Array setting array) (A.Array.held array) }
+        ensures instance { run_instance A.Placement A.Array.own result ≡ instance_of A.Placement A.Array.own setting array }
+        ensures state { run_state A.Array.own result ≡ beginning (instance_of A.Placement A.Array.own setting array) (A.Array.held array) }
     {
         let void = is_busy(&array);
         let cache = setting.initial();
@@ -47,14 +47,14 @@ impl<A: Array> Run<A> {
 
     // Whether every request is served.
     pub fn is_finished(&self) -> bool
-        ensures { result ≡ finished (run_instance A.Placement A.Array self.now) (run_state A.Array self.now) }
+        ensures { result ≡ finished (run_instance A.Placement A.Array.own self.now) (run_state A.Array.own self.now) }
     {
         self.cursor == self.setting.len()
     }
 
     // An order's own tests, all that come before the array is asked.
     fn admit(&self, fetch: u8, evict: u8) -> Result<(), RunFault>
-        ensures { outcome result ≡ admit (run_instance A.Placement A.Array self.now) (run_state A.Array self.now) fetch evict }
+        ensures { outcome result ≡ admit (run_instance A.Placement A.Array.own self.now) (run_state A.Array.own self.now) fetch evict }
     {
         if self.void {
             return Err(RunFault::Void);
@@ -82,9 +82,9 @@ impl<A: Array> Run<A> {
 
     // Begins a fetch of one block; the other leaves the cache in the same moment.
     pub fn order(&mut self, fetch: u8, evict: u8) -> Result<(), RunFault>
-        ensures answers { told (outcome result) ≡ answer (run_instance A.Placement A.Array self.old) (run_state A.Array self.old) (order_call fetch evict) }
-        ensures state { run_state A.Array self.new ≡ next (run_instance A.Placement A.Array self.old) (run_state A.Array self.old) (order_call fetch evict) }
-        ensures instance { run_instance A.Placement A.Array self.new ≡ run_instance A.Placement A.Array self.old }
+        ensures answers { told (outcome result) ≡ answer (run_instance A.Placement A.Array.own self.old) (run_state A.Array.own self.old) (order_call fetch evict) }
+        ensures state { run_state A.Array.own self.new ≡ next (run_instance A.Placement A.Array.own self.old) (run_state A.Array.own self.old) (order_call fetch evict) }
+        ensures instance { run_instance A.Placement A.Array.own self.new ≡ run_instance A.Placement A.Array.own self.old }
     {
         self.admit(fetch, evict)?;
         self.array.begin(fetch)?;
@@ -95,8 +95,8 @@ impl<A: Array> Run<A> {
 
     // A unit's own tests; answers the block asked for.
     fn ready(&self) -> Result<u8, RunFault>
-        ensures answers { outcome result ≡ ready (run_instance A.Placement A.Array self.now) (run_state A.Array self.now) }
-        ensures asked { IfOk result (λ b. (b ≡ asked (run_instance A.Placement A.Array self.now) self.now.cursor) × (self.now.cursor < last (run_instance A.Placement A.Array self.now)) × (self.now.elapsed < 65535)) }
+        ensures answers { outcome result ≡ ready (run_instance A.Placement A.Array.own self.now) (run_state A.Array.own self.now) }
+        ensures asked { IfOk result (λ b. (b ≡ asked (run_instance A.Placement A.Array.own self.now) self.now.cursor) × (self.now.cursor < last (run_instance A.Placement A.Array.own self.now)) × (self.now.elapsed < 65535)) }
     {
         if self.void {
             return Err(RunFault::Void);
@@ -114,9 +114,9 @@ impl<A: Array> Run<A> {
 
     // One unit of time: the block asked for is served if it is cached; then the disks work, and what arrives joins the cache.
     pub fn unit(&mut self) -> Result<Progress, RunFault>
-        ensures answers { unit_told result ≡ answer (run_instance A.Placement A.Array self.old) (run_state A.Array self.old) unit_call }
-        ensures state { run_state A.Array self.new ≡ next (run_instance A.Placement A.Array self.old) (run_state A.Array self.old) unit_call }
-        ensures instance { run_instance A.Placement A.Array self.new ≡ run_instance A.Placement A.Array self.old }
+        ensures answers { unit_told result ≡ answer (run_instance A.Placement A.Array.own self.old) (run_state A.Array.own self.old) unit_call }
+        ensures state { run_state A.Array.own self.new ≡ next (run_instance A.Placement A.Array.own self.old) (run_state A.Array.own self.old) unit_call }
+        ensures instance { run_instance A.Placement A.Array.own self.new ≡ run_instance A.Placement A.Array.own self.old }
     {
         let block = self.ready()?;
         let served = has(self.cache, block);
