@@ -10,11 +10,11 @@ use Rattle.tallies.specs.Tally.{State, finished}
 use Rattle.runs.specs.declared.run.Run.{Run}
 
 -- what does not change in a run
-abbrev pub run_instance : {X : Type 0} → PlacementOf X → ArrayOf X → Run X → Instance
+abbrev pub run_instance : {X : Type 0} (P : PlacementOf X) (A : ArrayOf X) → Run X A P → Instance
 run_instance P A r = instance_of P A r.setting r.array
 
 -- where it stands
-abbrev pub run_state : {X : Type 0} → ArrayOf X → Run X → State
+abbrev pub run_state : {X : Type 0} {P : PlacementOf X} (A : ArrayOf X) → Run X A P → State
 run_state A r =
     record { void = r.void; cursor = r.cursor; elapsed = r.elapsed; stall = r.stall; orders = r.orders; cache = r.cache; disks = A.held r.array }
 

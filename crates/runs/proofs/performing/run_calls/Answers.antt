@@ -8,7 +8,7 @@ returns g c =
     let x = c.args.array in
     let calls = c.args.calls.now in
     let new = c.new-run.ensures in
-    let done = c.in-ok-replies.ensures in
+    let done = c.in_ok-replies.ensures in
     record {
       instance = done.instance ∙ new.instance;
       state = done.state ∙ (λ k. after (new.instance k) (new.state k) calls);
@@ -16,8 +16,8 @@ returns g c =
       laws = lawful_above c.args.setting _ _ _ (g.met.A.Placement.housed x) (g.met.A.Array.working x) calls;
     }
 
-pub returns-in-err-replies : goal.returns-in-err-replies
-returns-in-err-replies g c =
+pub returns-in_err-replies : goal.returns-in_err-replies
+returns-in_err-replies g c =
     let x = c.args.array in
     record {
       instance = search rules;

@@ -17,7 +17,7 @@ loop-call-preserved g c =
     let x = get_or cs i (Order 0 0) in
     let inv = c.loop-call.invariant in
     let called = c.call.ensures in
-    let pushed = c.push-reserved.ensures in
+    let pushed = c.push_reserved.ensures in
     let more = take_more cs i (Order 0 0) c.loop-call-test.true in
     let told = called.answers ∙ (λ k. answer (inv.4 k) (inv.3 k) x) in (
       omega (arith, pushed.len, inv.0),
