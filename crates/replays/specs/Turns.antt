@@ -8,6 +8,7 @@ use Rattle.faults.specs.declared.replay.ReplayFault.{ReplayFault}
 use Rattle.faults.specs.declared.replay.ReplayFault.TheVariants as fault
 use Rattle.schedules.specs.declared.record.Order.{Order}
 use Rattle.arrays.specs.declared.array.Array.{Ghosts as ArrayOf}
+use Rattle.arrays.specs.declared.array.Placement.{Ghosts as PlacementOf}
 use Rattle.runs.specs.declared.run.Run.{Run}
 use Rattle.runs.specs.Runs.{run_state}
 use Rattle.replays.specs.declared.turn.Transcript.{Transcript}
@@ -15,7 +16,7 @@ use Rattle.replays.specs.declared.turn.Turn.{Turn}
 use Rattle.faults.specs.Faults.{replay_fault}
 use Rattle.schedules.specs.Replay.{Done, Read, stops, unless_refused, called, give_order}
 
-abbrev pub done : {X : Type 0} → ArrayOf X → Run X → Transcript → Done
+abbrev pub done : {X : Type 0} {P : PlacementOf X} (A : ArrayOf X) → Run X A P → Transcript → Done
 done A r t = record { state = run_state A r; calls = vec_items t.calls; units = vec_items t.units }
 
 abbrev pub read : Turn → Read

@@ -7,20 +7,20 @@ use Rattle.replays.proofs.Following.{ends_in_fault}
 use Rattle.replays.proofs.Giving.{orders_none, orders_go, orders_stop}
 use Rattle.replays.proofs.reading.give_orders.Goals as goal
 
-pub returns-in-err-give-standing : goal.returns-in-err-give-standing
-returns-in-err-give-standing g c =
+pub returns-in_err-give_standing : goal.returns-in_err-give_standing
+returns-in_err-give_standing g c =
     let w = run_instance g.A.Placement g.A.Array c.args.run.now in
-    let p = err_from_is_err_and c.from-residual.result c.from-residual.ensures.1 in
+    let p = err_from_is_err_and c.from_residual.result c.from_residual.ensures.1 in
     let inv = c.loop-disk.invariant in
     let disk = c.loop-disk.disk in
     let low : disk < 8 = omega arith in
     let t = read c.loop-disk.turn in
     let d = done g.A.Array c.loop-disk.run c.loop-disk.log in
     let said = c.give_standing.ensures in
-    let here = (λ k. give_standing (sym inv.1 k) (sym inv.2 k) c.args.map (sym inv.3 k) disk t d) ∙ c.in-err-give-standing.ensures.follows in
+    let here = (λ k. give_standing (sym inv.1 k) (sym inv.2 k) c.args.map (sym inv.3 k) disk t d) ∙ c.in_err-give_standing.ensures.follows in
     record {
       follows = sym inv.0 ∙ orders_stop w c.args.turn.now.bytes.now c.args.map c.args.turn.now.start disk t d _ _ low here
-          ∙ ends_in_fault _ _ _ _ c.in-err-give-standing.field-0.0 (p.1 ∙ ap Err p.2) refl;
+          ∙ ends_in_fault _ _ _ _ c.in_err-give_standing.field-0.0 (p.1 ∙ ap Err p.2) refl;
       instance = said.instance ∙ inv.1;
       turn = (said.turn.0 ∙ inv.2, said.turn.1 ∙ inv.3, omega (arith, said.turn.2, inv.4));
       room = search rules;
@@ -34,7 +34,7 @@ loop-disk-preserved g c =
     let low : disk < 8 = omega arith in
     let t = read c.loop-disk.turn in
     let d = done g.A.Array c.loop-disk.run c.loop-disk.log in
-    let said = c.in-ok-give-standing.ensures in
+    let said = c.in_ok-give_standing.ensures in
     let here = (λ k. give_standing (sym inv.1 k) (sym inv.2 k) c.args.map (sym inv.3 k) disk t d) ∙ said.follows in (
       orders_go w c.args.turn.now.bytes.now c.args.map c.args.turn.now.start disk t _ d _ low here ∙ inv.0,
       said.instance ∙ inv.1,

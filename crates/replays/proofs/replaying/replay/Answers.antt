@@ -4,22 +4,22 @@ use Rattle.schedules.specs.Replay.{replay_units}
 use Rattle.schedules.proofs.Spellings.{faithful}
 use Rattle.replays.proofs.replaying.replay.Goals as goal
 
-pub returns-in-err-calls : goal.returns-in-err-calls
-returns-in-err-calls g c =
+pub returns-in_err-calls : goal.returns-in_err-calls
+returns-in_err-calls g c =
     let r = c.args.run.now in
     record {
       replayed = search rules;
-      faithful = faithful (run_instance g.A.Placement g.A.Array r) (run_state g.A.Array r) c.args.bytes.now (g.met.A.Placement.housed r.array).few_disks (λ i. omega (arith, c.type-inv.bytes i));
+      faithful = faithful (run_instance g.A.Placement g.A.Array r) (run_state g.A.Array r) c.args.bytes.now (g.met.A.Placement.housed r.array).few_disks (λ i. omega (arith, c.type_inv.bytes i));
       instance = refl;
       untouched = search rules;
     }
 
-pub returns-in-err-units : goal.returns-in-err-units
-returns-in-err-units g c =
+pub returns-in_err-units : goal.returns-in_err-units
+returns-in_err-units g c =
     let r = c.args.run.now in
     record {
       replayed = search rules;
-      faithful = faithful (run_instance g.A.Placement g.A.Array r) (run_state g.A.Array r) c.args.bytes.now (g.met.A.Placement.housed r.array).few_disks (λ i. omega (arith, c.type-inv.bytes i));
+      faithful = faithful (run_instance g.A.Placement g.A.Array r) (run_state g.A.Array r) c.args.bytes.now (g.met.A.Placement.housed r.array).few_disks (λ i. omega (arith, c.type_inv.bytes i));
       instance = refl;
       untouched = search rules;
     }
@@ -31,8 +31,8 @@ returns g c =
     let w = run_instance g.A.Placement g.A.Array r in
     let s = run_state g.A.Array r in
     record {
-      replayed = (λ k. replay_units w bytes (suc (length bytes)) 0 (record { state = s; calls = sym c.in-ok-calls.ensures.items k; units = sym c.in-ok-units.ensures.items k })) ∙ c.replay-units-ending.ensures.follows;
-      faithful = faithful w s bytes (g.met.A.Placement.housed r.array).few_disks (λ i. omega (arith, c.type-inv.bytes i));
-      instance = c.replay-units-ending.ensures.instance;
+      replayed = (λ k. replay_units w bytes (suc (length bytes)) 0 (record { state = s; calls = sym c.in_ok-calls.ensures.items k; units = sym c.in_ok-units.ensures.items k })) ∙ c.replay_units-ending.ensures.follows;
+      faithful = faithful w s bytes (g.met.A.Placement.housed r.array).few_disks (λ i. omega (arith, c.type_inv.bytes i));
+      instance = c.replay_units-ending.ensures.instance;
       untouched = tt;
     }

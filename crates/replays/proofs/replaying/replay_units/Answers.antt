@@ -18,7 +18,7 @@ loop-run-preserved g c =
     let p = c.loop-run.place in
     let s = run_state g.A.Array c.loop-run.run in
     let d = done g.A.Array c.loop-run.run c.loop-run.log in
-    let said = c.in-ok-place.ensures in
+    let said = c.in_ok-place.ensures in
     let going = ap (λ v. finished v s) (sym inv.2) ∙ sym c.loop-run-test.ensures in
     let here = ap (λ v. replay_unit v bytes p d) (sym inv.2) ∙ said.follows in (
       said.onward.1,
@@ -27,17 +27,17 @@ loop-run-preserved g c =
       said.onward.2,
     )
 
-pub returns-in-err-place : goal.returns-in-err-place
-returns-in-err-place g c =
+pub returns-in_err-place : goal.returns-in_err-place
+returns-in_err-place g c =
     let w = run_instance g.A.Placement g.A.Array c.args.run.now in
     let bytes = c.args.bytes.now in
     let inv = c.loop-run.invariant in
     let p = c.loop-run.place in
     let s = run_state g.A.Array c.loop-run.run in
     let d = done g.A.Array c.loop-run.run c.loop-run.log in
-    let q = err_from_is_err_and c.from-residual.result c.from-residual.ensures.1 in
+    let q = err_from_is_err_and c.from_residual.result c.from_residual.ensures.1 in
     let going = ap (λ v. finished v s) (sym inv.2) ∙ sym c.loop-run-test.ensures in
-    let here = ap (λ v. replay_unit v bytes p d) (sym inv.2) ∙ c.in-err-place.ensures.follows in
+    let here = ap (λ v. replay_unit v bytes p d) (sym inv.2) ∙ c.in_err-place.ensures.follows in
     record {
       follows = sym inv.1.1.1 ∙ units_stop w bytes inv.1.0 p d _ _ (omega (arith, inv.1.1.0)) going here
           ∙ ap (λ r. way_of r (done g.A.Array c.replay_unit.new.run c.replay_unit.new.log)) (sym (q.1 ∙ ap Err q.2));
