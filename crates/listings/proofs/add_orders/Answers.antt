@@ -7,7 +7,7 @@ use Rattle.listings.proofs.add_orders.Goals as goal
 
 pub loop-order-preserved : goal.loop-order-preserved
 loop-order-preserved c =
-    text_more order_text (string_bytes c.args.text.now) _ _ c.args.orders.now c.loop-order.order-index None c.loop-order-test.true c.loop-order.invariant c.in-ok-add-order.ensures
+    text_more order_text (string_bytes c.args.text.now) _ _ c.args.orders.now c.loop-order.order-index None c.loop-order-test.true c.loop-order.invariant c.in_ok-add_order.ensures
 
 pub returns : goal.returns
 returns c =
