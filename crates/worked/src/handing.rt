@@ -1,5 +1,5 @@
 // Hand-ins that are refused, each with its number, part and place.
-use handins::mark_hand_in;
+use handins::{Counts, mark_hand_in};
 use std::alloc::Global;
 use std::process::Abort;
 use std::test::Fail;
@@ -98,9 +98,14 @@ fn counts(rt: HostRuntime) -> Result<(), Fail> {
     let report = mark_hand_in(heap, &worked_bytes())?;
     assert!(rt; report.ending.is_ok());
     assert_eq!(rt; report.units.len(), 7);
-    assert_eq!(rt; report.counts.cursor, 5);
-    assert_eq!(rt; report.counts.elapsed, 7);
-    assert_eq!(rt; report.counts.stall, 2);
-    assert_eq!(rt; report.counts.orders, 2);
+    assert_eq!(rt;
+        report.counts,
+        Counts {
+            cursor: 5,
+            elapsed: 7,
+            stall: 2,
+            orders: 2,
+        }
+    );
     Ok(())
 }

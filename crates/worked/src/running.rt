@@ -1,15 +1,14 @@
 // Runs above a drive.
 use super::setting::worked_setting;
-use arrays::{Array, Drive};
-use faults::{ArrayFault, FillFault, RunFault};
-use runs::Run;
+use arrays::{Array, ArrayFault, Drive, FillFault};
+use runs::{Run, RunFault};
 use settings::Setting;
 use std::alloc::Global;
 use std::test::Fail;
 use tallies::Call;
 
 // The worked setting above a drive with fetch time 3.
-pub(crate) fn worked_run(heap: Global) -> Result<Run<Drive>, Fail> {
+pub fn worked_run(heap: Global) -> Result<Run<Drive>, Fail> {
     let mut drive = Drive::new();
     drive.fill(3)?;
     Ok(Run::new(worked_setting(heap)?, drive))

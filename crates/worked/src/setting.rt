@@ -1,11 +1,10 @@
 // Settings at and beyond their limits, and the worked setting.
-use faults::{Figure, SettingFault};
-use settings::Setting;
+use settings::{Figure, Setting, SettingFault};
 use std::alloc::Global;
 use std::test::Fail;
 
 // Four blocks, a cache of three that holds 0, 1 and 2, and the requests 0 1 3 0 2.
-pub(crate) fn worked_setting(heap: Global) -> Result<Setting, Fail> {
+pub fn worked_setting(heap: Global) -> Result<Setting, Fail> {
     let mut setting = Setting::new(heap)?;
     setting.fill(4, 3, 0b111, &[0, 1, 3, 0, 2])?;
     Ok(setting)
