@@ -1,6 +1,6 @@
 // A bank: an array of up to four disks, kept in one table.
 ghost use Rattle.std.specs.Prelude.{◌≡◌, ℕ, ◌+◌, ◌<◌, ◌≤◌, false, length, is_some, MatchResult, slice_index};
-ghost use Rattle.std.proofs.Common.{◌∙◌, rules, arith};
+ghost use Rattle.std.proofs.Common.{◌∙◌, rules};
 ghost use Rattle.arrays.specs.Disks.{holds, idle};
 ghost use Rattle.arrays.specs.Filling.{try_bank, greatest};
 ghost use Rattle.arrays.specs.Layouts.{all_first};

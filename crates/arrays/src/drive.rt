@@ -4,7 +4,7 @@ ghost use Rattle.arrays.specs.Disks.{filled, try_time, alone};
 ghost use Rattle.arrays.specs.Layouts.{one_disk};
 ghost use Rattle.arrays.specs.Records.{block_of, left_of};
 ghost use Rattle.arrays.specs.Homes.{one_housed};
-ghost use Rattle.std.proofs.Common.{rules, arith};
+ghost use Rattle.std.proofs.Common.{rules};
 
 use crate::array::{Array, Placement};
 use crate::disk::{Disk, start, tick};
