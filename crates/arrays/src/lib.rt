@@ -12,5 +12,5 @@ mod table;
 pub use array::{Array, Placement};
 pub use bank::Bank;
 pub use drive::Drive;
-pub use faults::{ArrayFault, FillFault};
+pub use faults::{ArrayFault, BankFault, FillFault};
 pub use fetch::Fetch;

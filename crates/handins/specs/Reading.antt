@@ -4,10 +4,9 @@ use Rattle.settings.specs.declared.setting.Setting.{Setting}
 use Rattle.settings.specs.Contents.{Content, content}
 use Rattle.arrays.specs.declared.drive.Drive.{Drive}
 use Rattle.faults.specs.declared.replay.ReplayFault.{ReplayFault}
-use Rattle.faults.specs.Faults.{replay_fault}
+use Rattle.faults.specs.Faults.{replay_fault, said_at, in_schedule}
 use Rattle.handins.specs.declared.cut.PartOne.{PartOne}
 use Rattle.handins.specs.declared.cut.Schedule.{Schedule}
-use Rattle.faults.specs.Faults.{said_at, in_schedule}
 use Rattle.handins.specs.Tests.{Tried, passes, fails}
 use Rattle.handins.specs.Fields.{setting_in, time_in, requests_end, schedule_start, schedule_end, schedule_in}
 

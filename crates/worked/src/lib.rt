@@ -2,6 +2,8 @@
 #![tactic(auto)]
 
 #[cfg(test)]
+mod banking;
+#[cfg(test)]
 mod handing;
 #[cfg(test)]
 mod replaying;

@@ -2,8 +2,7 @@ use Rattle.std.proofs.Common.{ℕ, ◌<◌, List, length, get_or, sym, ap, ◌�
 use Rattle.std.proofs.lemmas.Result.{err_from_is_err_and}
 use Rattle.settings.specs.Contents.{Content}
 use Rattle.faults.specs.Faults.{setting_fault}
-use Rattle.settings.specs.Filling.{outcome}
-use Rattle.settings.specs.Filling.{FillsWithin}
+use Rattle.settings.specs.Filling.{outcome, FillsWithin}
 use Rattle.settings.proofs.Limits.{within, each_place, fills_within}
 use Rattle.settings.proofs.setting.Setting.fill.Goals as goal
 
