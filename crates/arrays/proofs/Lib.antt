@@ -1,4 +1,3 @@
-pub mod Begins
 pub mod Steps
 pub mod Spreads
 pub mod Tables

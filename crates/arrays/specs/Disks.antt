@@ -1,9 +1,6 @@
 -- What the disks of an array have under way, and what begin and step make of it. Assumes nothing.
-use Rattle.std.specs.Prelude.{◌≡◌, ℕ, ◌-◌, ◌^◌, ◌<◌, ◌≤◌, cond, ◌||◌, List, [], ◌∷◌, map, length, Some, None, Ok, Err, Option, Result, ◌==◌, bit_or, nat_lt, slice_index_or, slice_set}
+use Rattle.std.specs.Prelude.{◌≡◌, ℕ, ◌-◌, ◌^◌, ◌<◌, ◌≤◌, cond, ◌||◌, List, [], ◌∷◌, map, length, Some, None, Option, ◌==◌, bit_or, nat_lt, slice_index_or, slice_set}
 use Rattle.faults.specs.Outcomes.{Outcome, accepted, refused}
-use Rattle.faults.specs.declared.array.ArrayFault.{ArrayFault}
-use Rattle.faults.specs.declared.array.FillFault.{FillFault}
-use Rattle.faults.specs.Faults.{array_fault, fill_fault}
 use Rattle.arrays.specs.declared.fetch.Fetch.{Fetch}
 use Rattle.arrays.specs.Layouts.{Layout, home}
 
@@ -28,18 +25,18 @@ pub record Working (count time : ℕ) (disks : Disks) : Type 0 where
   pub fetching : (d : ℕ) → Fetching time (holds disks d)
   pub beyond : (d : ℕ) → count ≤ d → holds disks d ≡ None
 
-abbrev pub outcome : {X : Type 0} → Result X ArrayFault → Outcome
-outcome (Ok x) = accepted
-outcome (Err e) = array_fault e
-
 -- a fetch begins on disk d unless that has one under way
 abbrev pub idle_outcome : ℕ → Option Fetch → Outcome
 idle_outcome d None = accepted
 idle_outcome d (Some f) = refused 10 (d ∷ f.block ∷ [])
 
--- begin: a block above 63 is refused, then one whose home disk is busy
+-- begin of block b on disk d, which has a fetch under way or none: a block above 63 is refused, then a busy disk
+abbrev pub disk_outcome : ℕ → ℕ → Option Fetch → Outcome
+disk_outcome d b o = cond (nat_lt 63 b) (refused 7 (b ∷ [])) (idle_outcome d o)
+
+-- begin: the disk is the block's home
 abbrev pub begin_outcome : Layout → Disks → ℕ → Outcome
-begin_outcome l disks b = cond (nat_lt 63 b) (refused 7 (b ∷ [])) (idle_outcome (home l b) (holds disks (home l b)))
+begin_outcome l disks b = disk_outcome (home l b) b (holds disks (home l b))
 
 -- an accepted begin of block b on disk d changes that disk alone, and a refused one none
 abbrev pub begun : Outcome → ℕ → ℕ → ℕ → Disks → Disks
@@ -68,10 +65,6 @@ arrivals [] = 0
 arrivals (o ∷ os) = bit_or (delivered o) (arrivals os)
 
 -- filling: the fetch time is 1 to 64
-abbrev pub filled : {X : Type 0} → Result X FillFault → Outcome
-filled (Ok x) = accepted
-filled (Err e) = fill_fault e
-
 abbrev pub try_time : ℕ → Outcome
 try_time time = cond (nat_lt time 1 || nat_lt 64 time) (refused 1 (4 ∷ [])) accepted
 

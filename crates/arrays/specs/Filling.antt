@@ -4,16 +4,12 @@ use Rattle.faults.specs.declared.array.BankFault.{BankFault}
 use Rattle.faults.specs.declared.array.BankFault.TheVariants.{Time, Home}
 use Rattle.arrays.specs.Layouts.{Layout}
 
--- the fetch time is 1 to 64
-abbrev pub try_bank_time : ℕ → Result (Unit {0}) BankFault
-try_bank_time time = cond (nat_lt time 1 || nat_lt 64 time) (Err Time) (Ok tt)
-
 -- each home is at most 3; the first of the list is that of block b
 abbrev pub try_homes : ℕ → List ℕ → Result (Unit {0}) BankFault
 try_homes b [] = Ok tt
 try_homes b (h ∷ hs) = cond (nat_lt 3 h) (Err (Home b)) (try_homes (suc b) hs)
 
--- filling a bank: the fetch time, then the homes
+-- filling a bank: the fetch time, which is 1 to 64, then the homes
 abbrev pub try_bank : ℕ → List ℕ → Result (Unit {0}) BankFault
 try_bank time homes = cond (nat_lt time 1 || nat_lt 64 time) (Err Time) (try_homes 0 homes)
 

@@ -1,6 +1,8 @@
 // What a placement and an array are, whoever writes them.
 ghost use Rattle.std.specs.Prelude.{◌≡◌, ℕ, ◌<◌, ◌≤◌};
-ghost use Rattle.arrays.specs.Disks.{Disks, Working, holds, outcome, begin_outcome, begin_disks, step_disks, arrivals};
+ghost use Rattle.faults.specs.Faults.{array_fault};
+ghost use Rattle.faults.specs.Outcomes.{answered};
+ghost use Rattle.arrays.specs.Disks.{Disks, Working, holds, begin_outcome, begin_disks, step_disks, arrivals};
 ghost use Rattle.arrays.specs.Layouts.{Layout, Housed, home};
 
 use crate::fetch::Fetch;
@@ -38,7 +40,7 @@ pub trait Array: Placement {
 
     // Begins a fetch of a block on its home disk.
     fn begin(&mut self, block: u8) -> Result<(), ArrayFault>
-        ensures answers { outcome result ≡ begin_outcome (Self.Placement.layout self.old) (held self.old) block }
+        ensures answers { answered array_fault result ≡ begin_outcome (Self.Placement.layout self.old) (held self.old) block }
         ensures disks { held self.new ≡ begin_disks (Self.Placement.layout self.old) (time self.old) (held self.old) block }
         ensures layout { Self.Placement.layout self.new ≡ Self.Placement.layout self.old }
         ensures time { time self.new ≡ time self.old };

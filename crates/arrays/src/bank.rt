@@ -1,17 +1,17 @@
 // A bank: an array of up to four disks, kept in one table.
-ghost use Rattle.std.specs.Prelude.{◌≡◌, ℕ, ◌+◌, ◌<◌, ◌≤◌, false, length, is_some, MatchResult, slice_index};
+ghost use Rattle.std.specs.Prelude.{◌≡◌, ℕ, ◌+◌, ◌<◌, ◌≤◌, false, length, is_some, OnOk, OnErr, slice_index};
 ghost use Rattle.std.proofs.Common.{◌∙◌, rules};
 ghost use Rattle.arrays.specs.Disks.{holds, idle};
 ghost use Rattle.arrays.specs.Filling.{try_bank, greatest};
 ghost use Rattle.arrays.specs.Layouts.{all_first};
-ghost use Rattle.arrays.specs.Records.{block_of, left_of};
-ghost use Rattle.arrays.specs.Tables.{contents};
+ghost use Rattle.arrays.specs.Records.{left_of};
+ghost use Rattle.arrays.specs.Tables.{contents, fetching_each};
 ghost use Rattle.std.proofs.lemmas.List.{length-map};
 ghost use Rattle.arrays.specs.declared.disk.Disk.{Disk};
 
 use crate::array::{Array, Placement};
 use crate::fetch::Fetch;
-use crate::filling::{MOST_BLOCK, greatest, try_homes, try_time};
+use crate::filling::{greatest, try_homes, try_time};
 use crate::table::Table;
 use faults::{ArrayFault, BankFault};
 
@@ -27,8 +27,6 @@ pub struct Bank {
     ghost few: { count ≤ 4 },
     ghost all: { length homes ≡ 64 },
     ghost housed: { (b : ℕ) → slice_index homes b < count },
-    ghost known: { (d : ℕ) → block_of (holds (contents table.disks) d) < 64 },
-    ghost under: { (d : ℕ) → 1 ≤ left_of (holds (contents table.disks) d) },
     ghost within: { (d : ℕ) → left_of (holds (contents table.disks) d) ≤ time },
     ghost beyond: { (d : ℕ) → count ≤ d → is_some (holds (contents table.disks) d) ≡ false },
 }
@@ -36,7 +34,10 @@ pub struct Bank {
 impl Bank {
     // One idle disk, where every block lives, with fetch time 1.
     pub fn new() -> Bank
-        ensures { (result.time ≡ 1) × (result.count ≡ 1) × (result.homes ≡ all_first) × (contents result.table.disks ≡ idle) }
+        ensures time { result.time ≡ 1 }
+        ensures count { result.count ≡ 1 }
+        ensures homes { result.homes ≡ all_first }
+        ensures idle { contents result.table.disks ≡ idle }
     {
         Bank {
             time: 1,
@@ -50,7 +51,11 @@ impl Bank {
     // disks as the homes need.
     pub fn fill(&mut self, time: u8, homes: &[u8; 64]) -> Result<(), BankFault>
         ensures answers { result ≡ try_bank time homes.now }
-        ensures bank { MatchResult result (λ _. (self.new.time ≡ time) × (self.new.homes ≡ homes.now) × (self.new.count ≡ greatest homes.now + 1) × (contents self.new.table.disks ≡ idle)) (λ _. self.new ≡ self.old) }
+        ensures time { OnOk result (self.new.time ≡ time) }
+        ensures homes { OnOk result (self.new.homes ≡ homes.now) }
+        ensures count { OnOk result (self.new.count ≡ greatest homes.now + 1) }
+        ensures idle { OnOk result (contents self.new.table.disks ≡ idle) }
+        ensures refused { OnErr result (self.new ≡ self.old) }
     {
         try_time(time)?;
         try_homes(homes)?;
@@ -75,11 +80,7 @@ impl Placement for Bank {
     }
 
     fn home(&self, block: u8) -> u8 {
-        if block <= MOST_BLOCK {
-            self.homes[block as usize]
-        } else {
-            0
-        }
+        self.homes.get(block as usize).copied().unwrap_or(0)
     }
 }
 
@@ -93,7 +94,7 @@ impl Array for Bank {
           lasting = x.lasting;
           brief = x.brief;
           four = length-map x.table.disks (λ (d : Disk). d.fetch) ∙ x.table.four;
-          fetching = Prim.search rules;
+          fetching = fetching_each x.time x.table.disks x.within;
           beyond = Prim.search rules;
         } };
 
@@ -102,18 +103,8 @@ impl Array for Bank {
     }
 
     fn begin(&mut self, block: u8) -> Result<(), ArrayFault> {
-        if block > MOST_BLOCK {
-            return Err(ArrayFault::NoSuchBlock { block });
-        }
-        let disk = self.homes[block as usize];
-        let time = self.time;
-        match self.table.start(disk, block, time) {
-            Ok(()) => Ok(()),
-            Err(fetched) => Err(ArrayFault::DiskBusy {
-                disk,
-                block: fetched,
-            }),
-        }
+        let disk = self.home(block);
+        self.table.begin(disk, block, self.time)
     }
 
     fn step(&mut self) -> u64 {

@@ -1,15 +1,17 @@
 // A drive: an array of one disk.
-ghost use Rattle.std.specs.Prelude.{◌≡◌, ◌<◌, ◌≤◌, None, MatchResult};
-ghost use Rattle.arrays.specs.Disks.{filled, try_time, alone};
+ghost use Rattle.std.specs.Prelude.{◌≡◌, ◌<◌, ◌≤◌, None, OnOk, OnErr};
+ghost use Rattle.faults.specs.Faults.{fill_fault};
+ghost use Rattle.faults.specs.Outcomes.{answered};
+ghost use Rattle.arrays.specs.Disks.{try_time, alone};
 ghost use Rattle.arrays.specs.Layouts.{one_disk};
-ghost use Rattle.arrays.specs.Records.{block_of, left_of};
+ghost use Rattle.arrays.specs.Records.{left_of};
 ghost use Rattle.arrays.specs.Homes.{one_housed};
 ghost use Rattle.std.proofs.Common.{rules};
 
 use crate::array::{Array, Placement};
-use crate::disk::{Disk, start, tick};
+use crate::disk::Disk;
 use crate::fetch::Fetch;
-use crate::filling::{MOST_BLOCK, MOST_TIME};
+use crate::filling::try_time;
 use faults::{ArrayFault, FillFault};
 
 const ONLY_DISK: u8 = 0;
@@ -20,15 +22,14 @@ pub struct Drive {
     disk: Disk,
     ghost lasting: { 1 ≤ time },
     ghost brief: { time ≤ 64 },
-    ghost known: { block_of disk.fetch < 64 },
-    ghost under: { 1 ≤ left_of disk.fetch },
     ghost within: { left_of disk.fetch ≤ time },
 }
 
 impl Drive {
     // An idle drive with fetch time 1.
     pub fn new() -> Drive
-        ensures { (result.time ≡ 1) × (result.disk.fetch ≡ None) }
+        ensures time { result.time ≡ 1 }
+        ensures idle { result.disk.fetch ≡ None }
     {
         Drive {
             time: 1,
@@ -38,12 +39,12 @@ impl Drive {
 
     // Sets the fetch time and leaves the disk idle, or refuses and changes nothing.
     pub fn fill(&mut self, time: u8) -> Result<(), FillFault>
-        ensures answers { filled result ≡ try_time time }
-        ensures drive { MatchResult result (λ _. (self.new.time ≡ time) × (self.new.disk.fetch ≡ None)) (λ _. self.new ≡ self.old) }
+        ensures answers { answered fill_fault result ≡ try_time time }
+        ensures time { OnOk result (self.new.time ≡ time) }
+        ensures idle { OnOk result (self.new.disk.fetch ≡ None) }
+        ensures refused { OnErr result (self.new ≡ self.old) }
     {
-        if time < 1 || time > MOST_TIME {
-            return Err(FillFault::Time);
-        }
+        try_time(time)?;
         *self = Drive {
             time,
             disk: Disk { fetch: None },
@@ -61,6 +62,7 @@ impl Placement for Drive {
         1
     }
 
+    #[tactic(auto, using(crate::specs::Homes::first_home))]
     fn home(&self, _block: u8) -> u8 {
         ONLY_DISK
     }
@@ -77,22 +79,13 @@ impl Array for Drive {
         self.time
     }
 
+    #[tactic(auto, using(crate::specs::Homes::first_home))]
     fn begin(&mut self, block: u8) -> Result<(), ArrayFault> {
-        if block > MOST_BLOCK {
-            return Err(ArrayFault::NoSuchBlock { block });
-        }
-        let time = self.time;
-        match start(&mut self.disk, block, time) {
-            Ok(()) => Ok(()),
-            Err(fetched) => Err(ArrayFault::DiskBusy {
-                disk: 0,
-                block: fetched,
-            }),
-        }
+        self.disk.begin(ONLY_DISK, block, self.time)
     }
 
     fn step(&mut self) -> u64 {
-        tick(&mut self.disk)
+        self.disk.tick()
     }
 
     fn look(&self, disk: u8) -> Option<Fetch> {

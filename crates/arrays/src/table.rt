@@ -1,11 +1,13 @@
 // The table of four disks that a bank keeps.
-ghost use Rattle.std.specs.Prelude.{◌≡◌, ℕ, ◌<◌, ◌≤◌, length, slice_set};
-ghost use Rattle.arrays.specs.Disks.{holds, idle, step_disks, arrivals};
-ghost use Rattle.arrays.specs.Records.{block_of, left_of, started, start_answer};
+ghost use Rattle.std.specs.Prelude.{◌≡◌, ◌<◌, ◌≤◌, length, slice_set, Some, OnOk, OnErr};
+ghost use Rattle.faults.specs.Faults.{array_fault};
+ghost use Rattle.faults.specs.Outcomes.{answered};
+ghost use Rattle.arrays.specs.Disks.{disk_outcome, holds, idle, step_disks, arrivals};
 ghost use Rattle.arrays.specs.Tables.{contents};
 
-use crate::disk::{Disk, start, tick};
+use crate::disk::Disk;
 use crate::fetch::Fetch;
+use faults::ArrayFault;
 
 #[derive(Clone, Copy)]
 pub(crate) struct Table {
@@ -23,25 +25,28 @@ impl Table {
         }
     }
 
-    // Begins a fetch on one of the disks, in its place.
-    pub(crate) fn start(&mut self, disk: u8, block: u8, time: u8) -> Result<(), u8>
-        requires { disk < 4 }
-        ensures answers { result ≡ start_answer (holds (contents self.old.disks) disk) }
-        ensures disks { contents self.new.disks ≡ slice_set (contents self.old.disks) disk (started (holds (contents self.old.disks) disk) block time) }
+    // Begins a fetch of a block on one of the disks, in its place.
+    pub(crate) fn begin(&mut self, disk: u8, block: u8, time: u8) -> Result<(), ArrayFault>
+        requires there { disk < 4 }
+        requires lasting { 1 ≤ time }
+        ensures answers { answered array_fault result ≡ disk_outcome disk block (holds (contents self.old.disks) disk) }
+        ensures begun { OnOk result (contents self.new.disks ≡ slice_set (contents self.old.disks) disk (Some (record { block = block; left = time }))) }
+        ensures refused { OnErr result (contents self.new.disks ≡ contents self.old.disks) }
     {
-        start(&mut self.disks[disk as usize], block, time)
+        // the check does not yet build `self.disks[..].begin(..)`, a record lent from an array in a struct with ghost fields
+        let disks = &mut self.disks;
+        disks[disk as usize].begin(disk, block, time)
     }
 
     // One unit of time for every disk; answers the map of the blocks that they deliver.
     pub(crate) fn step(&mut self) -> u64
-        requires known { (d : ℕ) → block_of (holds (contents self.old.disks) d) < 64 }
-        requires under { (d : ℕ) → 1 ≤ left_of (holds (contents self.old.disks) d) }
         ensures answers { result ≡ arrivals (contents self.old.disks) }
         ensures disks { contents self.new.disks ≡ step_disks (contents self.old.disks) }
     {
         let mut arrived = 0;
+        // a `for`, since a `fold` over `iter_mut` says nothing yet of how it leaves the disks
         for disk in self.disks.iter_mut() {
-            arrived |= tick(disk);
+            arrived |= disk.tick();
         }
         arrived
     }
@@ -50,10 +55,6 @@ impl Table {
     pub(crate) fn look(&self, disk: u8) -> Option<Fetch>
         ensures { result ≡ holds (contents self.now.disks) disk }
     {
-        if disk < 4 {
-            self.disks[disk as usize].fetch
-        } else {
-            None
-        }
+        self.disks.get(disk as usize).and_then(|disk| disk.fetch)
     }
 }

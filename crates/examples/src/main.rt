@@ -1,16 +1,14 @@
 // Marks the hand-ins in the files that the arguments name, and prints each file's name and its listing.
 #![tactic(auto)]
 
-use handins::mark_hand_in;
-use listings::listing;
+use listings::marked_listing;
 use std::{env, fs};
 
 fn show(rt: &HostRuntime, name: &str) -> anyhow::Result<()> {
-    let heap = rt.alloc();
     let bytes = fs::read(rt, name)?;
-    let report = mark_hand_in(heap, bytes.as_slice())?;
+    let text = marked_listing(rt.alloc(), bytes.as_slice())?;
     rt.println(name)?;
-    rt.print(listing(heap, &report)?)?;
+    rt.print(text)?;
     Ok(())
 }
 

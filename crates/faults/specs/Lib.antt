@@ -1,2 +1,3 @@
 pub mod Outcomes
 pub mod Faults
+pub mod Texts

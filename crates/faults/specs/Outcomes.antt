@@ -1,5 +1,5 @@
 -- What a call answers that may refuse. Assumes nothing.
-use Rattle.std.specs.Prelude.{ℕ, List}
+use Rattle.std.specs.Prelude.{ℕ, List, Ok, Err, Result}
 
 -- accepted, or refused: the refusal's number and the values that it returns
 pub data Outcome : Type 0 where
@@ -15,3 +15,8 @@ and_then (refused n values) next = refused n values
 abbrev pub number_of : Outcome → ℕ
 number_of accepted = 0
 number_of (refused n values) = n
+
+-- what a result says, where `said` tells what each of its errors says
+abbrev pub answered : {X E : Type 0} → (E → Outcome) → Result X E → Outcome
+answered said (Ok x) = accepted
+answered said (Err e) = said e

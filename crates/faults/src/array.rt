@@ -1,4 +1,6 @@
 // Why an array refuses.
+ghost use Rattle.std.specs.Prelude.{◌≡◌};
+ghost use Rattle.faults.specs.declared.array.BankFault.TheVariants.{Time as of_time};
 
 // Why a fetch does not begin.
 #[derive(Clone, Copy, PartialEq, Eq, Debug)]
@@ -23,4 +25,14 @@ pub enum BankFault {
     Time,
     // the home of this block, the first such, is above 3
     Home { block: u8 },
+}
+
+impl From<FillFault> for BankFault {
+    ghost from_gives = { λ _ r. r ≡ of_time };
+
+    fn from(fault: FillFault) -> BankFault {
+        match fault {
+            FillFault::Time => BankFault::Time,
+        }
+    }
 }

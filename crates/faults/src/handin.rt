@@ -14,7 +14,8 @@ pub enum Part {
     Page,
 }
 
-// What the replay said, and the place in the hand-in where the schedule starts.
+// What the replay said, and the place in the hand-in where the schedule starts. Not one generic type with `Refused`: the
+// one has where the fault is, the other where to count from.
 #[derive(Clone, Copy, PartialEq, Eq, Debug)]
 pub struct ScheduleFault {
     pub start: usize,

@@ -1,5 +1,5 @@
 // The number under which each refusal is reported, its part and its place.
-ghost use Rattle.std.specs.Prelude.{◌≡◌, ◌-◌, ◌^◌, min};
+ghost use Rattle.std.specs.Prelude.{◌≡◌, ℕ, ◌-◌, ◌^◌, min};
 ghost use Rattle.faults.specs.Faults.{array_fault, bank_fault, figure, fill_fault, hand_in_fault, in_part_one, part_number, replay_fault, run_fault, setting_fault};
 ghost use Rattle.faults.specs.Outcomes.{number_of};
 
@@ -9,10 +9,18 @@ use crate::replay::ReplayFault;
 use crate::run::RunFault;
 use crate::setting::{Figure, SettingFault};
 
-impl Figure {
-    pub fn number(&self) -> u8
-        ensures { result ≡ figure self.now }
-    {
+// What is reported under a number: each refusal, and the parts and figures that refusals name.
+pub trait Numbered {
+    ghost numbered: { Self → ℕ };
+
+    fn number(&self) -> u8
+        ensures { result ≡ numbered self.now };
+}
+
+impl Numbered for Figure {
+    ghost numbered = { figure };
+
+    fn number(&self) -> u8 {
         match self {
             Figure::Blocks => 1,
             Figure::Size => 2,
@@ -21,10 +29,10 @@ impl Figure {
     }
 }
 
-impl SettingFault {
-    pub fn number(&self) -> u8
-        ensures { result ≡ number_of (setting_fault self.now) }
-    {
+impl Numbered for SettingFault {
+    ghost numbered = { λ e. number_of (setting_fault e) };
+
+    fn number(&self) -> u8 {
         match self {
             SettingFault::Figure(_) => 1,
             SettingFault::Initial { .. } => 2,
@@ -33,10 +41,10 @@ impl SettingFault {
     }
 }
 
-impl ArrayFault {
-    pub fn number(&self) -> u8
-        ensures { result ≡ number_of (array_fault self.now) }
-    {
+impl Numbered for ArrayFault {
+    ghost numbered = { λ e. number_of (array_fault e) };
+
+    fn number(&self) -> u8 {
         match self {
             ArrayFault::NoSuchBlock { .. } => 7,
             ArrayFault::DiskBusy { .. } => 10,
@@ -44,31 +52,30 @@ impl ArrayFault {
     }
 }
 
-impl FillFault {
-    pub fn number(&self) -> u8
-        ensures { result ≡ number_of (fill_fault self.now) }
-    {
+impl Numbered for FillFault {
+    ghost numbered = { λ e. number_of (fill_fault e) };
+
+    fn number(&self) -> u8 {
         match self {
             FillFault::Time => 1,
         }
     }
 }
 
-impl BankFault {
-    pub fn number(&self) -> u8
-        ensures { result ≡ number_of (bank_fault self.now) }
-    {
+impl Numbered for BankFault {
+    ghost numbered = { λ e. number_of (bank_fault e) };
+
+    fn number(&self) -> u8 {
         match self {
-            BankFault::Time => 1,
-            BankFault::Home { .. } => 1,
+            BankFault::Time | BankFault::Home { .. } => 1,
         }
     }
 }
 
-impl RunFault {
-    pub fn number(&self) -> u8
-        ensures { result ≡ number_of (run_fault self.now) }
-    {
+impl Numbered for RunFault {
+    ghost numbered = { λ e. number_of (run_fault e) };
+
+    fn number(&self) -> u8 {
         match self {
             RunFault::Void => 4,
             RunFault::Finished { .. } => 5,
@@ -81,10 +88,10 @@ impl RunFault {
     }
 }
 
-impl ReplayFault {
-    pub fn number(&self) -> u8
-        ensures { result ≡ number_of (replay_fault self.now).said }
-    {
+impl Numbered for ReplayFault {
+    ghost numbered = { λ e. number_of (replay_fault e).said };
+
+    fn number(&self) -> u8 {
         match self {
             ReplayFault::Short { .. } => 11,
             ReplayFault::Bit { .. } => 12,
@@ -92,24 +99,26 @@ impl ReplayFault {
             ReplayFault::Run(refused) => refused.fault.number(),
         }
     }
+}
 
+impl ReplayFault {
     // The place in the schedule.
     pub fn place(&self) -> usize
         ensures { result ≡ (replay_fault self.now).place }
     {
         match self {
-            ReplayFault::Short { place } => *place,
-            ReplayFault::Bit { place } => *place,
-            ReplayFault::LeftOver { place } => *place,
+            ReplayFault::Short { place }
+            | ReplayFault::Bit { place }
+            | ReplayFault::LeftOver { place } => *place,
             ReplayFault::Run(refused) => refused.place,
         }
     }
 }
 
-impl Part {
-    pub fn number(&self) -> u8
-        ensures { result ≡ part_number self.now }
-    {
+impl Numbered for Part {
+    ghost numbered = { part_number };
+
+    fn number(&self) -> u8 {
         match self {
             Part::Setting => 1,
             Part::Schedule => 2,
@@ -131,30 +140,31 @@ fn field_place(fault: &SettingFault) -> usize
     }
 }
 
-impl HandInFault {
-    pub fn number(&self) -> u8
-        ensures { result ≡ number_of (hand_in_fault self.now).said }
-    {
+impl Numbered for HandInFault {
+    ghost numbered = { λ e. number_of (hand_in_fault e).said };
+
+    fn number(&self) -> u8 {
         match self {
-            HandInFault::TooLong => 14,
             HandInFault::Short { .. } => 11,
             HandInFault::MapByte => 12,
+            HandInFault::TooLong | HandInFault::LeftOver { .. } => 14,
             HandInFault::Setting(fault) => fault.number(),
             HandInFault::Array(fault) => fault.number(),
             HandInFault::Schedule(fault) => fault.fault.number(),
-            HandInFault::LeftOver { .. } => 14,
         }
     }
+}
 
+impl HandInFault {
     pub fn part(&self) -> Part
         ensures { part_number result ≡ (hand_in_fault self.now).part }
     {
         match self {
-            HandInFault::TooLong => Part::Setting,
             HandInFault::Short { part, .. } => *part,
-            HandInFault::MapByte => Part::Setting,
-            HandInFault::Setting(_) => Part::Setting,
-            HandInFault::Array(_) => Part::Setting,
+            HandInFault::TooLong
+            | HandInFault::MapByte
+            | HandInFault::Setting(_)
+            | HandInFault::Array(_) => Part::Setting,
             HandInFault::Schedule(_) => Part::Schedule,
             HandInFault::LeftOver { .. } => Part::Page,
         }
@@ -166,12 +176,11 @@ impl HandInFault {
     {
         match self {
             HandInFault::TooLong => 65_000,
-            HandInFault::Short { place, .. } => *place,
+            HandInFault::Short { place, .. } | HandInFault::LeftOver { place } => *place,
             HandInFault::MapByte => 0,
             HandInFault::Setting(fault) => field_place(fault),
             HandInFault::Array(_) => 3,
             HandInFault::Schedule(fault) => fault.start.saturating_add(fault.fault.place()),
-            HandInFault::LeftOver { place } => *place,
         }
     }
 }

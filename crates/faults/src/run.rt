@@ -1,6 +1,6 @@
 // Why a run refuses a call.
 ghost use Rattle.std.specs.Prelude.{◌≡◌};
-ghost use Rattle.faults.specs.declared.run.RunFault.TheVariants.{Array as of_Array};
+ghost use Rattle.faults.specs.declared.run.RunFault.TheVariants.{Array as of_array};
 
 use crate::array::ArrayFault;
 
@@ -23,7 +23,7 @@ pub enum RunFault {
 }
 
 impl From<ArrayFault> for RunFault {
-    ghost from_gives = { λ e r. r ≡ of_Array e };
+    ghost from_gives = { λ e r. r ≡ of_array e };
 
     fn from(fault: ArrayFault) -> RunFault {
         RunFault::Array(fault)

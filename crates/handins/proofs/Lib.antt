@@ -1,1 +1,3 @@
 pub mod Truth
+pub mod Headers
+pub mod Endings

@@ -1,9 +1,8 @@
 -- A hand-in whose parts pass is marked truly. Assumes nothing.
-use Rattle.std.proofs.Common.{◌≡◌, ℕ, ◌+◌, ◌^◌, ◌<◌, ◌≤◌, ◌||◌, ltb, List, get_or, take, drop, refl, ⊎_elim, arith}
+use Rattle.std.proofs.Common.{◌≡◌, ℕ, ◌+◌, ◌^◌, ◌<◌, ◌≤◌, List, get_or, take, drop, refl, arith}
 use Rattle.std.proofs.lemmas.List.{get_or-take, get_or-drop, get_or_past, length-take}
-use Rattle.std.proofs.lemmas.Bool.{or_parts, ltb-false, cases_lt}
+use Rattle.std.proofs.lemmas.Bool.Decides.{nat_tests}
 use Rattle.faults.specs.Outcomes.{Outcome, accepted, refused}
-use Rattle.faults.proofs.Outcomes.{passed_test}
 use Rattle.settings.proofs.Limits.{within}
 use Rattle.arrays.specs.Disks.{try_time}
 use Rattle.arrays.specs.Layouts.{one_disk}
@@ -15,26 +14,20 @@ use Rattle.tallies.proofs.Lawfulness.{tallies_lawful}
 use Rattle.schedules.specs.Replay.{Way, goes, stops}
 use Rattle.schedules.specs.Spelling.{Faithful}
 use Rattle.schedules.proofs.Spellings.{faithful}
-use Rattle.faults.specs.Faults.{Said}
 use Rattle.handins.specs.Tests.{Tried, passes, fails, and_then, filled}
 use Rattle.handins.specs.Fields.{setting_in, time_in, schedule_in, schedule_length, schedule_start, try_size, try_map_byte, try_whole, try_fields, try_parts}
 use Rattle.handins.specs.Marking.{Truly, done_by, idle, instance_in, replay_in}
 
-fails_never : (x : Said) → fails x ≡ passes → ⊥
-fails_never x e = let z : ◌≡◌ {A = ℕ} 0 1 = cc in omega arith
-
 both : (a b : Tried) → and_then a b ≡ passes → (a ≡ passes) × (b ≡ passes)
 both passes b e = (refl, e)
-both (fails x) b e = absurd (fails_never x e)
+both (fails x) b e = cc
 
 filled_accepted : (o : Outcome) → filled o ≡ passes → o ≡ accepted
 filled_accepted accepted e = refl
-filled_accepted (refused n values) e = absurd (fails_never _ e)
+filled_accepted (refused n values) e = cc
 
 time_within : (time : ℕ) → try_time time ≡ accepted → (1 ≤ time) × (time ≤ 64)
-time_within time e =
-    let (low, high) = or_parts (ltb time 1) (ltb 64 time) (passed_test (ltb time 1 || ltb 64 time) 1 _ _ e).0 in
-    (ltb-false time 1 low, ltb-false 64 time high)
+time_within time e = grind (arith, nat_tests)
 
 sound_in : (bytes : List ℕ) → try_parts bytes ≡ passes → Sound (instance_in bytes)
 sound_in bytes e =
@@ -55,10 +48,7 @@ done_tallied bytes (stops f d) h = h.0.tallied
 
 -- a part of bytes has bytes
 part_bytes : (bytes : List ℕ) (n k : ℕ) → ((i : ℕ) → get_or bytes i 0 < 2 ^ 8) → (i : ℕ) → get_or (take n (drop k bytes)) i 0 < 2 ^ 8
-part_bytes bytes n k byte i = ⊎_elim
-    (λ l. rw (get_or-take n (drop k bytes) i 0 l, get_or-drop k bytes i 0) (byte (k + i)))
-    (λ l. omega (arith, get_or_past (take n (drop k bytes)) i 0 (simp length-take (omega arith))))
-    (cases_lt i n)
+part_bytes bytes n k byte i = let e = get_or-drop k bytes i 0 in let b = byte (k + i) in grind (arith, nat_tests, get_or-take, get_or_past, length-take)
 
 pub truly : (bytes : List ℕ) → ((i : ℕ) → get_or bytes i 0 < 2 ^ 8) → try_parts bytes ≡ passes → Truly bytes
 truly bytes byte e =

@@ -2,3 +2,4 @@ pub mod Tests
 pub mod Fields
 pub mod Marking
 pub mod Reading
+pub mod Texts

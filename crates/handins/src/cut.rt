@@ -1,21 +1,20 @@
 // What is read of a hand-in before it is tried.
+ghost use Rattle.std.specs.Prelude.{◌+◌, ◌≤◌, ◌^◌, ◌<◌, length};
 
-// The figures, the initial map and the requests of a hand-in.
-#[derive(Drop)]
+use settings::Contents;
+
+// Part 1: what the setting is to hold, and the fetch time.
+#[derive(Clone, Copy)]
 pub(crate) struct PartOne<'a> {
-    pub(crate) blocks: u8,
-    pub(crate) size: u8,
+    pub(crate) contents: Contents<'a>,
     pub(crate) time: u8,
-    pub(crate) initial: u64,
-    pub(crate) requests: &'a [u8],
-    // the place behind the last request
-    pub(crate) end: usize,
 }
 
-// The schedule, and the places of its first byte and of the first byte behind it.
-#[derive(Drop)]
+// Part 2: the schedule, the place of its first byte, and the bytes behind it.
+#[derive(Clone, Copy)]
 pub(crate) struct Schedule<'a> {
     pub(crate) start: usize,
-    pub(crate) end: usize,
     pub(crate) bytes: &'a [u8],
+    pub(crate) rest: &'a [u8],
+    ghost placed: { start + length bytes.now < 2 ^ 64 },
 }

@@ -5,6 +5,7 @@ mod counting;
 mod cut;
 mod marking;
 mod parts;
+mod printing;
 mod report;
 
 pub use faults::{HandInFault, Part, ScheduleFault};

@@ -1,12 +1,13 @@
 // The parts of a hand-in, read and cut out.
-ghost use Rattle.std.specs.Prelude.{◌≡◌, ◌+◌, ◌≤◌, length, IfOk};
+ghost use Rattle.std.specs.Prelude.{◌≡◌, ◌+◌, ◌≤◌, length, take, drop, IfOk, OnOk};
 ghost use Rattle.handins.specs.Tests.{and_then, tried};
-ghost use Rattle.handins.specs.Fields.{requests_end, try_size, try_map_byte, try_whole, try_schedule};
-ghost use Rattle.handins.specs.Reading.{Fields, Cut};
+ghost use Rattle.handins.specs.Fields.{requests_end, schedule_end, try_size, try_map_byte, try_whole, try_schedule};
+ghost use Rattle.handins.specs.Reading.{Fields, Cut, reaches};
 
 use crate::cut::{PartOne, Schedule};
 use faults::{HandInFault, Part};
 use maps::big_endian;
+use settings::Contents;
 
 const MOST_BYTES: usize = 65_000;
 
@@ -14,86 +15,83 @@ const MOST_BYTES: usize = 65_000;
 const HEADER: usize = 13;
 
 // The size of the hand-in, then its map byte, which may have no bit.
-fn try_front(bytes: &[u8]) -> Result<(), HandInFault>
+pub(crate) fn try_front(bytes: &[u8]) -> Result<(), HandInFault>
     ensures { tried result ≡ and_then (try_size bytes.now) (try_map_byte bytes.now) }
 {
     if bytes.len() > MOST_BYTES {
         return Err(HandInFault::TooLong);
     }
-    let Some(map) = bytes.first() else {
-        return Err(HandInFault::Short {
+    match bytes.first() {
+        None => Err(HandInFault::Short {
             part: Part::Setting,
             place: 0,
-        });
-    };
-    if *map != 0 {
-        return Err(HandInFault::MapByte);
+        }),
+        Some(map) if *map != 0 => Err(HandInFault::MapByte),
+        Some(_) => Ok(()),
     }
-    Ok(())
 }
 
-// Where the requests end, unless the bytes end before.
-fn end_of_requests(bytes: &[u8]) -> Result<usize, HandInFault>
-    ensures tried { tried result ≡ try_whole bytes.now }
-    ensures end { IfOk result (λ end. (end ≡ requests_end bytes.now) × (end ≤ length bytes.now)) }
-{
-    if bytes.len() < HEADER {
-        return Err(HandInFault::Short {
-            part: Part::Setting,
-            place: bytes.len(),
-        });
-    }
-    let end = HEADER + bytes[4] as usize;
-    if bytes.len() < end {
-        return Err(HandInFault::Short {
-            part: Part::Setting,
-            place: bytes.len(),
-        });
-    }
-    Ok(end)
+// A hand-in of which the bytes before `place` are read.
+#[derive(Clone, Copy)]
+pub(crate) struct Reader<'a> {
+    pub(crate) bytes: &'a [u8],
+    pub(crate) place: usize,
+    ghost within: { place ≤ length bytes.now },
 }
 
-// Part 1, read whole.
-pub(crate) fn read_part_one(bytes: &[u8]) -> Result<PartOne<'_>, HandInFault>
-    ensures tried { tried result ≡ and_then (try_size bytes.now) (and_then (try_map_byte bytes.now) (try_whole bytes.now)) }
-    ensures fields { IfOk result (λ p. Fields bytes.now p) }
-{
-    try_front(bytes)?;
-    let end = end_of_requests(bytes)?;
-    Ok(PartOne {
-        blocks: bytes[1],
-        size: bytes[2],
-        time: bytes[3],
-        initial: big_endian(&bytes[5..HEADER]),
-        requests: &bytes[HEADER..end],
-        end,
-    })
-}
+impl<'a> Reader<'a> {
+    // The next bytes, so many, which belong to this part; there may be fewer.
+    fn take(&mut self, count: usize, part: Part) -> Result<&'a [u8], HandInFault>
+        ensures tried { tried result ≡ reaches (length self.old.bytes.now) (self.old.place + count) part }
+        ensures taken { IfOk result (λ s. s.now ≡ take count (drop self.old.place self.old.bytes.now)) }
+        ensures place { OnOk result (self.new.place ≡ self.old.place + count) }
+        ensures bytes { self.new.bytes.now ≡ self.old.bytes.now }
+    {
+        let Some(taken) = self.bytes[self.place..].get(..count) else {
+            return Err(HandInFault::Short {
+                part,
+                place: self.bytes.len(),
+            });
+        };
+        self.place += count;
+        Ok(taken)
+    }
 
-// Part 2, cut out whole behind its 2-byte length.
-pub(crate) fn cut_schedule(bytes: &[u8], at: usize) -> Result<Schedule<'_>, HandInFault>
-    requires { (at ≡ requests_end bytes.now) × (at ≤ length bytes.now) }
-    ensures tried { tried result ≡ try_schedule bytes.now }
-    ensures cut { IfOk result (λ s. Cut bytes.now s) }
-{
-    if bytes.len() - at < 2 {
-        return Err(HandInFault::Short {
-            part: Part::Schedule,
-            place: bytes.len(),
-        });
+    // Part 1, read whole from the map byte on.
+    pub(crate) fn part_one(&mut self) -> Result<PartOne<'a>, HandInFault>
+        requires { self.old.place ≡ 0 }
+        ensures tried { tried result ≡ try_whole self.old.bytes.now }
+        ensures fields { IfOk result (λ p. Fields self.old.bytes.now p) }
+        ensures place { OnOk result (self.new.place ≡ requests_end self.old.bytes.now) }
+        ensures bytes { self.new.bytes.now ≡ self.old.bytes.now }
+    {
+        // by place, as the format lists the fields
+        let header = self.take(HEADER, Part::Setting)?;
+        let requests = self.take(usize::from(header[4]), Part::Setting)?;
+        Ok(PartOne {
+            contents: Contents {
+                blocks: header[1],
+                size: header[2],
+                initial: big_endian(&header[5..]),
+                requests,
+            },
+            time: header[3],
+        })
     }
-    let start = at + 2;
-    let size = big_endian(&bytes[at..start]);
-    if ((bytes.len() - start) as u64) < size {
-        return Err(HandInFault::Short {
-            part: Part::Schedule,
-            place: bytes.len(),
-        });
+
+    // Part 2, cut out whole behind its 2-byte length.
+    pub(crate) fn schedule(&mut self) -> Result<Schedule<'a>, HandInFault>
+        requires { self.old.place ≡ requests_end self.old.bytes.now }
+        ensures tried { tried result ≡ try_schedule self.old.bytes.now }
+        ensures cut { IfOk result (λ s. Cut self.old.bytes.now s) }
+    {
+        let size = big_endian(self.take(2, Part::Schedule)?);
+        let start = self.place;
+        let bytes = self.take(size as usize, Part::Schedule)?;
+        Ok(Schedule {
+            start,
+            bytes,
+            rest: &self.bytes[self.place..],
+        })
     }
-    let end = start + size as usize;
-    Ok(Schedule {
-        start,
-        end,
-        bytes: &bytes[start..end],
-    })
 }

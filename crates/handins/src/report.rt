@@ -2,8 +2,8 @@
 use faults::HandInFault;
 use schedules::UnitRecord;
 
-// The counts of a run; all are 0 where no run was made.
-#[derive(Clone, Copy, PartialEq, Eq, Debug)]
+// The counts of a run; all are 0 where no run was made, and no Option: the definition of a report gives these counts.
+#[derive(Clone, Copy, PartialEq, Eq, Debug, Default)]
 pub struct Counts {
     pub cursor: u8,
     pub elapsed: u16,

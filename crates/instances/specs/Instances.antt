@@ -1,6 +1,5 @@
 -- An instance: all that does not change while a run goes on. Assumes nothing.
-use Rattle.std.specs.Prelude.{ℕ, ◌^◌, ◌<◌, ◌≤◌, List, ◌≡◌, length, get_or}
-use Rattle.std.specs.Int.Count.{ones}
+use Rattle.std.specs.Prelude.{ℕ, ◌^◌, ◌<◌, ◌≤◌, List, ◌≡◌, length, count_ones, slice_index}
 use Rattle.settings.specs.declared.setting.Setting.{Setting}
 use Rattle.settings.specs.Contents.{Content, content}
 use Rattle.arrays.specs.declared.array.Array.{Ghosts as ArrayOf}
@@ -34,7 +33,7 @@ instance_of P A s x = instance (content s) (P.layout x) (A.time x)
 
 -- the block asked for at cursor c, which is request c + 1
 abbrev pub asked : Instance → ℕ → ℕ
-asked w c = get_or w.requests c 0
+asked w c = slice_index w.requests c
 
 -- the cursor at which all requests are served
 abbrev pub last : Instance → ℕ
@@ -42,7 +41,7 @@ last w = length w.requests
 
 -- the disk where a block lives
 abbrev pub home : Instance → ℕ → ℕ
-home w b = get_or w.homes b 0
+home w b = slice_index w.homes b
 
 -- what every instance of a setting and an array has
 pub record Sound (w : Instance) : Type 0 where
@@ -50,7 +49,7 @@ pub record Sound (w : Instance) : Type 0 where
   pub few_blocks : w.blocks ≤ 64
   -- the initial cache has as many blocks as the cache holds, all of them below the number of blocks
   pub some_held : 1 ≤ w.size
-  pub full : ones w.initial ≡ w.size
+  pub full : count_ones w.initial ≡ w.size
   pub known : w.initial < 2 ^ w.blocks
   -- each request names a block
   pub few_requests : last w ≤ 200

@@ -1,7 +1,8 @@
 // Sets of blocks and of disks as 64-bit maps: bit b, bit 0 lowest, stands for block or disk b.
-#![tactic(auto)]
+// The number is tested before each shift: `checked_shl` and `checked_shr` answer an `Option`, which reads no plainer here.
+#![tactic(auto, using(crate::proofs::Maps::map_steps))]
 
-ghost use Rattle.std.specs.Prelude.{◌≡◌, ℕ, ◌^◌, ◌<◌, true, not, ◌&&◌, ◌||◌, ltb, if◌then◌else◌, ◌==◌, count_ones, nat_lt};
+ghost use Rattle.std.specs.Prelude.{◌≡◌, ℕ, ◌^◌, ◌<◌, true, not, ◌&&◌, ◌||◌, if◌then◌else◌, ◌==◌, count_ones, nat_lt};
 ghost use Rattle.maps.specs.Maps.{has, with, without, total};
 
 mod numbers;
@@ -9,6 +10,7 @@ mod numbers;
 pub use numbers::big_endian;
 
 // Whether a block is in the map; one above 63 is in none.
+#[tactic(auto, using(crate::proofs::Maps::map_steps), unfolding(crate::specs::Maps::has))]
 pub fn has(map: u64, block: u8) -> bool
     ensures { result ≡ has map block }
 {
@@ -17,7 +19,7 @@ pub fn has(map: u64, block: u8) -> bool
 
 // The map with a block put in; one above 63 has no place in a map, which then stays as it is.
 pub fn with(map: u64, block: u8) -> u64
-    ensures value { result ≡ (if ltb block 64 then with map block else map) }
+    ensures value { result ≡ (if nat_lt block 64 then with map block else map) }
     ensures members { (b : ℕ) → has result b ≡ (has map b || (nat_lt block 64 && b == block)) }
 {
     if block < 64 { map | 1 << block } else { map }
@@ -28,11 +30,7 @@ pub fn without(map: u64, block: u8) -> u64
     ensures value { result ≡ without map block }
     ensures members { (b : ℕ) → has result b ≡ (has map b && not (b == block)) }
 {
-    if has(map, block) {
-        map ^ 1 << block
-    } else {
-        map
-    }
+    if block < 64 { map & !(1 << block) } else { map }
 }
 
 // Whether every block in the map is below a limit.

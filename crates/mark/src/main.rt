@@ -1,8 +1,7 @@
 // Marks the hand-in that stands on standard input, and prints a line for each unit that ran, and the last line.
 #![tactic(auto)]
 
-use handins::mark_hand_in;
-use listings::listing;
+use listings::marked_listing;
 use std::io::Read;
 
 // One byte more than a hand-in may have, so that a longer one is seen to be too long.
@@ -12,8 +11,7 @@ fn run(rt: &HostRuntime) -> anyhow::Result<()> {
     let heap = rt.alloc();
     let mut bytes = Vec::new(heap);
     rt.stdin().take(MOST_READ).read_to_end(&mut bytes)?;
-    let report = mark_hand_in(heap, bytes.as_slice())?;
-    rt.print(listing(heap, &report)?)?;
+    rt.print(marked_listing(heap, bytes.as_slice())?)?;
     Ok(())
 }
 

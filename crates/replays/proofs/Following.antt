@@ -9,6 +9,7 @@ use Rattle.faults.specs.declared.replay.Refused.{Refused}
 use Rattle.faults.specs.declared.replay.ReplayFault.{ReplayFault}
 use Rattle.faults.specs.declared.replay.ReplayFault.TheVariants as fault
 use Rattle.faults.specs.Faults.{replay_fault}
+use Rattle.tallies.specs.Tally.{Answer, told, served, stalled}
 use Rattle.schedules.specs.Replay.{Done, goes, stops, ends, unless_refused}
 
 -- what a run's fault says is no acceptance
@@ -36,3 +37,9 @@ refused_way p o x d z at_place is =
 module _ {X Y : Type 0} (x : X) (r : Result Y ReplayFault) (d e : Done) where
   pub ends_in_fault : (f : ReplayFault) → r ≡ Err f → e ≡ d → stops (replay_fault f) d ≡ ends x r e
   ends_in_fault f is same = λ k. ends x (sym is k) (sym same k)
+
+-- what an answer told
+abbrev pub said_of : Answer → Outcome
+said_of (told o) = o
+said_of (served b) = accepted
+said_of (stalled b) = accepted

@@ -1,4 +1,3 @@
 pub mod Following
 pub mod Giving
-pub mod Rooms
 pub mod Turning

@@ -1,10 +1,11 @@
 // Schedules: bytes that say which orders and units to give to a run.
 #![tactic(auto)]
 
+mod log;
 mod reading;
 mod replaying;
-mod turn;
 
 pub use faults::{Refused, ReplayFault};
 pub use replaying::{Replayed, replay};
-pub use schedules::{Order, UnitRecord};
+pub use schedules::UnitRecord;
+pub use tallies::Order;

@@ -1,13 +1,11 @@
 // A whole schedule, given to a run.
 ghost use Rattle.std.specs.Prelude.{◌≡◌, suc, length, IfOk, OnErr};
-ghost use Rattle.runs.specs.Runs.{run_instance, run_state};
 ghost use Rattle.schedules.specs.Replay.{replay_units, replayed, way_of};
 ghost use Rattle.schedules.specs.Spelling.{Faithful};
-ghost use Rattle.replays.specs.Turns.{Room, done};
+ghost use Rattle.replays.specs.Turns.{done};
 
-use crate::reading::replay_unit;
-use crate::turn::Transcript;
-use arrays::Array;
+use crate::log::Replay;
+use arrays::{Array, Placement};
 use faults::ReplayFault;
 use runs::Run;
 use schedules::UnitRecord;
@@ -22,43 +20,49 @@ pub struct Replayed {
     pub ending: Result<(), ReplayFault>,
 }
 
-// Units until the run is finished; then no byte may be left.
-fn replay_units<A: Array>(
-    run: &mut Run<A>,
-    log: &mut Transcript,
-    bytes: &[u8],
-) -> Result<(), ReplayFault>
-    requires { Room (length bytes.now) 1 log.old }
-    ensures follows { replay_units (run_instance A.Placement A.Array.own run.old) bytes.now (suc (length bytes.now)) 0 (done A.Array.own run.old log.old) ≡ way_of result (done A.Array.own run.new log.new) }
-    ensures instance { run_instance A.Placement A.Array.own run.new ≡ run_instance A.Placement A.Array.own run.old }
-{
-    let mut place = 0;
-    while !run.is_finished() {
-        place = replay_unit(run, log, bytes, place)?;
+impl Replay<'_> {
+    // Units until the run is finished; then no byte may be left.
+    #[tactic(auto, using(crate::proofs::Turning::units_gave, crate::proofs::Turning::units_stopped))]
+    fn replay_units<A: Array>(&mut self, run: &mut Run<A>) -> Result<(), ReplayFault>
+        requires { self.old.place ≡ 0 }
+        ensures follows { replay_units run.old.instance self.old.bytes.now (suc (length self.old.bytes.now)) 0 (done run.old self.old) ≡ way_of result (done run.new self.new) }
+        ensures instance { run.new.instance ≡ run.old.instance }
+    {
+        while !run.is_finished() {
+            self.replay_unit(run)?;
+        }
+        if self.place < self.bytes.len() {
+            return Err(ReplayFault::LeftOver { place: self.place });
+        }
+        Ok(())
     }
-    if place < bytes.len() {
-        return Err(ReplayFault::LeftOver { place });
-    }
-    Ok(())
 }
 
 // Gives a schedule's orders and units to a run, until it is finished or the first fault. What was done before a fault
 // stays. Where memory is short, nothing is done.
+#[tactic(auto, using(schedules::proofs::Spellings::faithful))]
 pub fn replay<A: Array>(
     heap: Global,
     run: &mut Run<A>,
     bytes: &[u8],
 ) -> Result<Replayed, AllocError>
-    ensures replayed { IfOk result (λ x. replayed (run_instance A.Placement A.Array.own run.old) (run_state A.Array.own run.old) bytes.now ≡ way_of x.ending (record { state = run_state A.Array.own run.new; calls = x.calls.items; units = x.units.items })) }
-    ensures faithful { Faithful (run_instance A.Placement A.Array.own run.old) (run_state A.Array.own run.old) bytes.now (replayed (run_instance A.Placement A.Array.own run.old) (run_state A.Array.own run.old) bytes.now) }
-    ensures instance { run_instance A.Placement A.Array.own run.new ≡ run_instance A.Placement A.Array.own run.old }
-    ensures untouched { OnErr result (run_state A.Array.own run.new ≡ run_state A.Array.own run.old) }
+    ensures replayed { IfOk result (λ x. replayed run.old.instance run.old.state bytes.now ≡ way_of x.ending (record { state = run.new.state; calls = x.calls.items; units = x.units.items })) }
+    ensures faithful { Faithful run.old.instance run.old.state bytes.now (replayed run.old.instance run.old.state bytes.now) }
+    ensures instance { run.new.instance ≡ run.old.instance }
+    ensures untouched { OnErr result (run.new.state ≡ run.old.state) }
 {
-    let calls = Vec::with_capacity(heap, bytes.len())?;
-    let units = Vec::with_capacity(heap, bytes.len())?;
-    let mut log = Transcript { calls, units };
-    let ending = replay_units(run, &mut log, bytes);
-    let Transcript { calls, units } = log;
+    // so that the four orders of a record are enough
+    prove!(run.array().disks() <= 4);
+    let mut replay = Replay {
+        bytes,
+        start: 0,
+        place: 0,
+        orders: [None; 4],
+        calls: Vec::with_capacity(heap, bytes.len())?,
+        units: Vec::with_capacity(heap, bytes.len())?,
+    };
+    let ending = replay.replay_units(run);
+    let Replay { calls, units, .. } = replay;
     Ok(Replayed {
         calls,
         units,

@@ -1,2 +1,4 @@
 pub mod Busy
+pub mod Counts
+pub mod Lists
 pub mod Spending

@@ -4,44 +4,50 @@ ghost use Rattle.instances.specs.Instances.{instance_of};
 ghost use Rattle.tallies.specs.Laws.{Lawful};
 ghost use Rattle.tallies.specs.Tally.{beginning, answer, next, after, answers, tally};
 ghost use Rattle.tallies.specs.Replies.{reply_answer};
-ghost use Rattle.runs.specs.Runs.{run_instance, run_state, Spent};
+ghost use Rattle.runs.specs.Standing.{Spent};
 
 use crate::run::Run;
 use arrays::Array;
+use faults::RunFault;
 use settings::Setting;
 use std::alloc::{AllocError, Global};
 use tallies::{Call, Reply};
 
 impl<A: Array> Run<A> {
     // Makes one call.
-    pub fn call(&mut self, call: Call) -> Reply
-        ensures answers { reply_answer result ≡ answer (run_instance A.Placement A.Array.own self.old) (run_state A.Array.own self.old) call }
-        ensures state { run_state A.Array.own self.new ≡ next (run_instance A.Placement A.Array.own self.old) (run_state A.Array.own self.old) call }
-        ensures instance { run_instance A.Placement A.Array.own self.new ≡ run_instance A.Placement A.Array.own self.old }
+    pub fn call(&mut self, call: Call) -> Result<Reply, RunFault>
+        ensures answers { reply_answer result ≡ answer self.old.instance self.old.state call }
+        ensures state { self.new.state ≡ next self.old.instance self.old.state call }
+        ensures instance { self.new.instance ≡ self.old.instance }
     {
         match call {
-            Call::Order { fetch, evict } => match self.order(fetch, evict) {
-                Ok(()) => Reply::Accepted,
-                Err(fault) => Reply::Refused(fault),
-            },
-            Call::Unit => match self.unit() {
-                Ok(progress) => Reply::Passed(progress),
-                Err(fault) => Reply::Refused(fault),
-            },
+            Call::Order(order) => {
+                self.order(order)?;
+                Ok(Reply::Accepted)
+            }
+            Call::Unit => Ok(Reply::Passed(self.unit()?)),
         }
     }
 
     // Makes each call in turn, refused ones included, and answers the replies. Where memory is short, makes none.
-    pub fn perform(&mut self, heap: Global, calls: &[Call]) -> Result<Vec<Reply>, AllocError>
-        ensures answers { IfOk result (λ v. map reply_answer v.items ≡ answers (run_instance A.Placement A.Array.own self.old) (run_state A.Array.own self.old) calls.now) }
-        ensures state { MatchResult result (λ _. run_state A.Array.own self.new ≡ after (run_instance A.Placement A.Array.own self.old) (run_state A.Array.own self.old) calls.now) (λ _. run_state A.Array.own self.new ≡ run_state A.Array.own self.old) }
-        ensures instance { run_instance A.Placement A.Array.own self.new ≡ run_instance A.Placement A.Array.own self.old }
-        ensures spent { Spent (run_instance A.Placement A.Array.own self.new) (run_state A.Array.own self.new) }
+    #[tactic(auto, using(crate::proofs::Lists::call_steps))]
+    pub fn perform(
+        &mut self,
+        heap: Global,
+        calls: &[Call],
+    ) -> Result<Vec<Result<Reply, RunFault>>, AllocError>
+        ensures answers { IfOk result (λ v. map reply_answer v.items ≡ answers self.old.instance self.old.state calls.now) }
+        ensures state { MatchResult result (λ _. self.new.state ≡ after self.old.instance self.old.state calls.now) (λ _. self.new.state ≡ self.old.state) }
+        ensures instance { self.new.instance ≡ self.old.instance }
+        ensures spent { Spent self.new.instance self.new.state }
     {
+        // time adds up, before the calls and after them: this is read off the run's counts, which contracts do not see
+        prove!(u32::from(self.elapsed) == u32::from(self.cursor) + u32::from(self.stall));
         let mut replies = Vec::with_capacity(heap, calls.len())?;
         for call in calls {
             replies.push_reserved(self.call(*call));
         }
+        prove!(u32::from(self.elapsed) == u32::from(self.cursor) + u32::from(self.stall));
         Ok(replies)
     }
 }
@@ -50,7 +56,7 @@ impl<A: Array> Run<A> {
 #[derive(Drop)]
 pub struct Performance<A: Array> {
     pub run: Run<A>,
-    pub replies: Vec<Reply>,
+    pub replies: Vec<Result<Reply, RunFault>>,
 }
 
 // Makes a run of the setting and the array, and gives it every call of the list.
@@ -60,8 +66,8 @@ pub fn run_calls<A: Array + Drop>(
     array: A,
     calls: &[Call],
 ) -> Result<Performance<A>, AllocError>
-    ensures instance { IfOk result (λ p. run_instance A.Placement A.Array.own p.run ≡ instance_of A.Placement A.Array.own setting array) }
-    ensures state { IfOk result (λ p. run_state A.Array.own p.run ≡ tally (instance_of A.Placement A.Array.own setting array) (A.Array.held array) calls.now) }
+    ensures instance { IfOk result (λ p. p.run.instance ≡ instance_of A.Placement A.Array.own setting array) }
+    ensures state { IfOk result (λ p. p.run.state ≡ tally (instance_of A.Placement A.Array.own setting array) (A.Array.held array) calls.now) }
     ensures answers { IfOk result (λ p. map reply_answer p.replies.items ≡ answers (instance_of A.Placement A.Array.own setting array) (beginning (instance_of A.Placement A.Array.own setting array) (A.Array.held array)) calls.now) }
     ensures laws { Lawful (instance_of A.Placement A.Array.own setting array) (A.Array.held array) calls.now }
 {

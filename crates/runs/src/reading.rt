@@ -1,6 +1,7 @@
 // What a run tells of itself, without changing.
 ghost use Rattle.std.specs.Prelude.{◌≡◌};
-ghost use Rattle.runs.specs.Runs.{run_instance, run_state, Spent};
+ghost use Rattle.instances.specs.Instances.{instance_of};
+ghost use Rattle.runs.specs.Standing.{Counted, Spent};
 
 use crate::run::Run;
 use arrays::Array;
@@ -9,57 +10,61 @@ use settings::Setting;
 impl<A: Array> Run<A> {
     // Whether a fetch was under way when the run was made.
     pub fn is_void(&self) -> bool
-        ensures { result ≡ (run_state A.Array.own self.now).void }
+        ensures { result ≡ self.now.state.void }
     {
         self.void
     }
 
     // The requests served.
     pub fn cursor(&self) -> u8
-        ensures { result ≡ (run_state A.Array.own self.now).cursor }
+        ensures { result ≡ self.now.state.cursor }
     {
         self.cursor
     }
 
     // The units gone by: each served a request or stalled.
     pub fn elapsed(&self) -> u16
-        ensures value { result ≡ (run_state A.Array.own self.now).elapsed }
-        ensures spent { Spent (run_instance A.Placement A.Array.own self.now) (run_state A.Array.own self.now) }
+        ensures value { result ≡ self.now.state.elapsed }
+        ensures spent { Spent self.now.instance self.now.state }
     {
         self.elapsed
     }
 
     // The units that stalled.
     pub fn stall(&self) -> u16
-        ensures { result ≡ (run_state A.Array.own self.now).stall }
+        ensures { result ≡ self.now.state.stall }
     {
         self.stall
     }
 
-    // The orders accepted.
+    // The orders accepted, which are bounded by the units gone by.
     pub fn orders(&self) -> u32
-        ensures { result ≡ (run_state A.Array.own self.now).orders }
+        ensures value { result ≡ self.now.state.orders }
+        ensures counted { Counted self.now.instance self.now.state }
     {
         self.orders
     }
 
     // The map of the blocks in the cache.
     pub fn cache(&self) -> u64
-        ensures { result ≡ (run_state A.Array.own self.now).cache }
+        ensures { result ≡ self.now.state.cache }
     {
         self.cache
     }
 
     // The setting, to be read.
     pub fn setting(&self) -> &Setting
-        ensures { result.now ≡ self.now.setting }
+        ensures lent { result.now ≡ self.now.setting }
+        ensures instance { self.now.instance ≡ instance_of A.Placement A.Array.own result.now self.now.array }
     {
         &self.setting
     }
 
     // The array, to be read.
     pub fn array(&self) -> &A
-        ensures { result.now ≡ self.now.array }
+        ensures lent { result.now ≡ self.now.array }
+        ensures instance { self.now.instance ≡ instance_of A.Placement A.Array.own self.now.setting result.now }
+        ensures disks { self.now.state.disks ≡ A.Array.held result.now }
     {
         &self.array
     }

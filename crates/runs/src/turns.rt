@@ -4,32 +4,28 @@ ghost use Rattle.instances.specs.Instances.{asked, last, instance_of};
 ghost use Rattle.tallies.specs.Tally.{admit, any_busy, beginning, finished, ready, told, answer, next};
 ghost use Rattle.tallies.specs.declared.call.Call.TheVariants.{Order as order_call, Unit as unit_call};
 ghost use Rattle.tallies.specs.Replies.{unit_told};
-ghost use Rattle.runs.specs.Runs.{run_instance, run_state, outcome};
+ghost use Rattle.faults.specs.Faults.{run_fault};
+ghost use Rattle.faults.specs.Outcomes.{answered};
 
 use crate::run::Run;
 use arrays::Array;
 use faults::RunFault;
 use maps::{has, without};
 use settings::Setting;
-use tallies::Progress;
+use tallies::{Order, Progress};
 
 // Whether a fetch is under way.
 fn is_busy<A: Array>(array: &A) -> bool
     ensures { result ≡ any_busy (A.Array.held array.now) }
 {
-    for disk in 0..4 {
-        if array.look(disk).is_some() {
-            return true;
-        }
-    }
-    false
+    (0..4).any(|disk| array.look(disk).is_some())
 }
 
 impl<A: Array> Run<A> {
     // A run at its beginning; above an array with a fetch under way it is void.
     pub fn new(setting: Setting, array: A) -> Run<A>
-        ensures instance { run_instance A.Placement A.Array.own result ≡ instance_of A.Placement A.Array.own setting array }
-        ensures state { run_state A.Array.own result ≡ beginning (instance_of A.Placement A.Array.own setting array) (A.Array.held array) }
+        ensures instance { result.instance ≡ instance_of A.Placement A.Array.own setting array }
+        ensures state { result.state ≡ beginning (instance_of A.Placement A.Array.own setting array) (A.Array.held array) }
     {
         let void = is_busy(&array);
         let cache = setting.initial();
@@ -47,14 +43,14 @@ impl<A: Array> Run<A> {
 
     // Whether every request is served.
     pub fn is_finished(&self) -> bool
-        ensures { result ≡ finished (run_instance A.Placement A.Array.own self.now) (run_state A.Array.own self.now) }
+        ensures { result ≡ finished self.now.instance self.now.state }
     {
         self.cursor == self.setting.len()
     }
 
     // An order's own tests, all that come before the array is asked.
-    fn admit(&self, fetch: u8, evict: u8) -> Result<(), RunFault>
-        ensures { outcome result ≡ admit (run_instance A.Placement A.Array.own self.now) (run_state A.Array.own self.now) fetch evict }
+    fn admit(&self, order: Order) -> Result<(), RunFault>
+        ensures { answered run_fault result ≡ admit self.now.instance self.now.state order }
     {
         if self.void {
             return Err(RunFault::Void);
@@ -64,6 +60,7 @@ impl<A: Array> Run<A> {
                 elapsed: self.elapsed,
             });
         }
+        let Order { fetch, evict } = order;
         let blocks = self.setting.blocks();
         if fetch >= blocks {
             return Err(RunFault::NoSuchBlock { block: fetch });
@@ -81,22 +78,23 @@ impl<A: Array> Run<A> {
     }
 
     // Begins a fetch of one block; the other leaves the cache in the same moment.
-    pub fn order(&mut self, fetch: u8, evict: u8) -> Result<(), RunFault>
-        ensures answers { told (outcome result) ≡ answer (run_instance A.Placement A.Array.own self.old) (run_state A.Array.own self.old) (order_call fetch evict) }
-        ensures state { run_state A.Array.own self.new ≡ next (run_instance A.Placement A.Array.own self.old) (run_state A.Array.own self.old) (order_call fetch evict) }
-        ensures instance { run_instance A.Placement A.Array.own self.new ≡ run_instance A.Placement A.Array.own self.old }
+    #[tactic(auto, using(maps::proofs::Maps::ones_without, tallies::proofs::Moves::evicts_cached))]
+    pub fn order(&mut self, order: Order) -> Result<(), RunFault>
+        ensures answers { told (answered run_fault result) ≡ answer self.old.instance self.old.state (order_call order) }
+        ensures state { self.new.state ≡ next self.old.instance self.old.state (order_call order) }
+        ensures instance { self.new.instance ≡ self.old.instance }
     {
-        self.admit(fetch, evict)?;
-        self.array.begin(fetch)?;
-        self.cache = without(self.cache, evict);
+        self.admit(order)?;
+        self.array.begin(order.fetch)?;
+        self.cache = without(self.cache, order.evict);
         self.orders += 1;
         Ok(())
     }
 
     // A unit's own tests; answers the block asked for.
     fn ready(&self) -> Result<u8, RunFault>
-        ensures answers { outcome result ≡ ready (run_instance A.Placement A.Array.own self.now) (run_state A.Array.own self.now) }
-        ensures asked { IfOk result (λ b. (b ≡ asked (run_instance A.Placement A.Array.own self.now) self.now.cursor) × (self.now.cursor < last (run_instance A.Placement A.Array.own self.now)) × (self.now.elapsed < 65535)) }
+        ensures answers { answered run_fault result ≡ ready self.now.instance self.now.state }
+        ensures asked { IfOk result (λ b. (b ≡ asked self.now.instance self.now.state.cursor) × (self.now.state.cursor < last self.now.instance) × (self.now.state.elapsed < 65535)) }
     {
         if self.void {
             return Err(RunFault::Void);
@@ -113,10 +111,11 @@ impl<A: Array> Run<A> {
     }
 
     // One unit of time: the block asked for is served if it is cached; then the disks work, and what arrives joins the cache.
+    #[tactic(auto, using(crate::proofs::Counts::ones_joined))]
     pub fn unit(&mut self) -> Result<Progress, RunFault>
-        ensures answers { unit_told result ≡ answer (run_instance A.Placement A.Array.own self.old) (run_state A.Array.own self.old) unit_call }
-        ensures state { run_state A.Array.own self.new ≡ next (run_instance A.Placement A.Array.own self.old) (run_state A.Array.own self.old) unit_call }
-        ensures instance { run_instance A.Placement A.Array.own self.new ≡ run_instance A.Placement A.Array.own self.old }
+        ensures answers { unit_told result ≡ answer self.old.instance self.old.state unit_call }
+        ensures state { self.new.state ≡ next self.old.instance self.old.state unit_call }
+        ensures instance { self.new.instance ≡ self.old.instance }
     {
         let block = self.ready()?;
         let served = has(self.cache, block);

@@ -4,48 +4,34 @@ use Rattle.std.proofs.lemmas.Bool.{cases_lt}
 use Rattle.tallies.specs.declared.call.Call.TheVariants as call
 use Rattle.maps.specs.Maps.{has}
 use Rattle.maps.proofs.Maps.{has_none, has_above, has_low, has_next, same_map}
-use Rattle.schedules.specs.declared.record.Order.{Order}
+use Rattle.tallies.specs.declared.call.Order.{Order}
 use Rattle.schedules.specs.Spelling.{marks, pairs, order_calls}
 
 -- no order stands from disk k on
 abbrev pub Clear : ℕ → List (Option Order) → Type 0
 Clear k os = (j : ℕ) → k ≤ j → get_or os j None ≡ None
 
-pub some_order : (o : Order) → Some o ≡ None → ⊥
-some_order o e = let z : ◌≡◌ {A = ℕ} 0 1 = cc in omega arith
-
 none_left : (os : List (Option Order)) → Clear 0 os → (pairs os ≡ []) × (order_calls os ≡ [])
 none_left [] h = (refl, refl)
 none_left (None ∷ os) h = none_left os (λ j l. h (suc j) (omega arith))
-none_left (Some o ∷ os) h = absurd (some_order o (h 0 (omega arith)))
+none_left (Some o ∷ os) h = cc (h 0 (omega arith))
 
--- an order put in behind all others
-pub pairs_set : (os : List (Option Order)) (k : ℕ) (o : Order) → k < length os → Clear k os → pairs (set os k (Some o)) ≡ pairs os ++ o.fetch ∷ o.evict ∷ []
-pairs_set [] k o low h = absurd (omega arith)
-pairs_set (None ∷ os) zero o low h =
-    let rest = (none_left os (λ j l. h (suc j) (omega arith))).0 in
-    ap (λ ps. o.fetch ∷ o.evict ∷ ps) rest ∙ sym (ap (λ ps. ps ++ o.fetch ∷ o.evict ∷ []) rest)
-pairs_set (Some x ∷ os) zero o low h = absurd (some_order x (h 0 (omega arith)))
-pairs_set (None ∷ os) (suc k) o low h = pairs_set os k o (omega arith) (λ j l. h (suc j) (omega arith))
-pairs_set (Some x ∷ os) (suc k) o low h = ap (λ ps. x.fetch ∷ x.evict ∷ ps) (pairs_set os k o (omega arith) (λ j l. h (suc j) (omega arith)))
-
-pub calls_set : (os : List (Option Order)) (k : ℕ) (o : Order) → k < length os → Clear k os
-    → order_calls (set os k (Some o)) ≡ order_calls os ++ call.Order o.fetch o.evict ∷ []
-calls_set [] k o low h = absurd (omega arith)
-calls_set (None ∷ os) zero o low h =
-    let rest = (none_left os (λ j l. h (suc j) (omega arith))).1 in
-    ap (λ cs. call.Order o.fetch o.evict ∷ cs) rest ∙ sym (ap (λ cs. cs ++ call.Order o.fetch o.evict ∷ []) rest)
-calls_set (Some x ∷ os) zero o low h = absurd (some_order x (h 0 (omega arith)))
-calls_set (None ∷ os) (suc k) o low h = calls_set os k o (omega arith) (λ j l. h (suc j) (omega arith))
-calls_set (Some x ∷ os) (suc k) o low h = ap (λ cs. call.Order x.fetch x.evict ∷ cs) (calls_set os k o (omega arith) (λ j l. h (suc j) (omega arith)))
+-- an order put in behind all others adds its two bytes and its call
+pub order_set : (os : List (Option Order)) (k : ℕ) (o : Order) → k < length os → Clear k os
+    → (pairs (set os k (Some o)) ≡ pairs os ++ o.fetch ∷ o.evict ∷ []) × (order_calls (set os k (Some o)) ≡ order_calls os ++ call.Order o ∷ [])
+order_set [] k o low h = absurd (omega arith)
+order_set (None ∷ os) zero o low h = let none = none_left os (λ j l. h (suc j) (omega arith)) in (simp none.0, simp none.1)
+order_set (Some x ∷ os) zero o low h = cc (h 0 (omega arith))
+order_set (None ∷ os) (suc k) o low h = order_set os k o (omega arith) (λ j l. h (suc j) (omega arith))
+order_set (Some x ∷ os) (suc k) o low h = let rest = order_set os k o (omega arith) (λ j l. h (suc j) (omega arith)) in (simp rest.0, simp rest.1)
 
 -- the bits of the map byte
 has_marks : (os : List (Option Order)) (j : ℕ) → has (marks os) j ≡ is_some (get_or os j None)
 has_marks [] j = has_none j
 has_marks (None ∷ os) zero = has_low (2 * marks os) false (omega arith)
-has_marks (None ∷ os) (suc j) = sym (has_next (2 * marks os) j) ∙ ap (λ n. has n j) (let half : 2 * marks os / 2 ≡ marks os = omega arith in half) ∙ has_marks os j
+has_marks (None ∷ os) (suc j) = let half : 2 * marks os / 2 ≡ marks os = omega arith in sym (has_next (2 * marks os) j) ∙ rw half (has_marks os j)
 has_marks (Some o ∷ os) zero = has_low (1 + 2 * marks os) true (omega arith)
-has_marks (Some o ∷ os) (suc j) = sym (has_next (1 + 2 * marks os) j) ∙ ap (λ n. has n j) (let half : (1 + 2 * marks os) / 2 ≡ marks os = omega arith in half) ∙ has_marks os j
+has_marks (Some o ∷ os) (suc j) = let half : (1 + 2 * marks os) / 2 ≡ marks os = omega arith in sym (has_next (1 + 2 * marks os) j) ∙ rw half (has_marks os j)
 
 -- a byte whose bits are the orders is their map byte
 pub marks_are : (os : List (Option Order)) (m : ℕ) → m < 2 ^ 8 → Clear 8 os → ((j : ℕ) → j < 8 → is_some (get_or os j None) ≡ has m j) → m ≡ marks os

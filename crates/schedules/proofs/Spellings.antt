@@ -1,26 +1,28 @@
 -- A replay gives the calls that its bytes spell. Assumes nothing.
-use Rattle.std.proofs.Common.{◌≡◌, ℕ, zero, suc, ◌+◌, ◌-◌, ◌^◌, ◌<◌, ◌≤◌, true, false, not, ◌&&◌, eqb, ltb, leb, List, [], ◌∷◌, ◌++◌, length, get_or, take, drop, set, is_some, Some, None, sym, refl, ap, ◌∙◌, subst, ⊎_elim, arith, length-set, get_or-set_other, get_or-set_same}
-use Rattle.std.specs.List.{range_with_len, flat_map}
+use Rattle.std.proofs.Common.{◌≡◌, ℕ, zero, suc, ◌+◌, ◌-◌, ◌^◌, ◌<◌, ◌≤◌, true, false, ltb, List, [], ◌∷◌, ◌++◌, length, get_or, take, drop, set, is_some, Some, None, sym, refl, ap, ◌∙◌, subst, ⊎_elim, arith, length-set, get_or-set_other, get_or-set_same}
+use Rattle.std.specs.List.{flat_map}
 use Rattle.std.proofs.lemmas.List.FromFn.{map-range_with_len_more}
 use Rattle.std.proofs.lemmas.List.{append-nil, append_assoc, flat_map_more, length_push, map_push, take_all, take-append-drop, take_more, map-id}
-use Rattle.std.proofs.lemmas.Bool.{cases_eq, cond_both, or_parts, leb-false, ltb-false, ltb-true}
+use Rattle.std.proofs.lemmas.Bool.Decides.{nat_tests}
+use Rattle.std.proofs.lemmas.Bool.{cases_eq, cond_both, ltb-false, ltb-true}
 use Rattle.maps.specs.Maps.{has}
 use Rattle.faults.specs.Outcomes.{Outcome, accepted, refused}
-use Rattle.instances.specs.Instances.{Instance, home}
+use Rattle.instances.specs.Instances.{Instance}
 use Rattle.tallies.specs.declared.call.Call.{Call}
+use Rattle.tallies.specs.declared.call.Order.{Order}
 use Rattle.tallies.specs.declared.call.Call.TheVariants as call
-use Rattle.tallies.specs.Tally.{State, Answer, finished, order_outcome, answer, next, after, answers}
+use Rattle.tallies.specs.Tally.{State, Answer, told, finished, order_outcome, answer, next, after, answers}
 use Rattle.tallies.specs.Logs.{serves, stalls}
 use Rattle.tallies.proofs.Appending.{after_append, answers_append}
 use Rattle.tallies.proofs.Counting.{next_elapsed}
 use Rattle.tallies.proofs.Moves.{unit_by}
+use Rattle.tallies.specs.declared.reply.Progress.{Progress}
 use Rattle.tallies.specs.declared.reply.Progress.TheVariants as progress
 use Rattle.tallies.specs.Replies.{progress_answer}
-use Rattle.schedules.specs.declared.record.Order.{Order}
 use Rattle.schedules.specs.declared.record.UnitRecord.{UnitRecord}
 use Rattle.schedules.specs.Replay.{Done, Read, Way, goes, stops, and_then, unless_refused, called, no_orders, barred, closed, give_order, give_standing, give_orders, replay_unit, replay_units, replayed}
-use Rattle.schedules.specs.Spelling.{marks, pairs, order_calls, spelled, unit_calls, passing, Doing, Begun, Faithful}
-use Rattle.schedules.proofs.Marks.{Clear, pairs_set, calls_set, marks_are}
+use Rattle.schedules.specs.Spelling.{pairs, order_calls, spelled, unit_calls, passing, Doing, Begun, Faithful}
+use Rattle.schedules.proofs.Marks.{Clear, order_set, marks_are}
 
 abbrev answer_of : UnitRecord → Answer
 answer_of u = progress_answer u.progress
@@ -31,6 +33,11 @@ number_of u = u.number
 joined_push : {X A : Type 0} (f : X → List A) (xs : List X) (x : X) → flat_map f (xs ++ x ∷ []) ≡ flat_map f xs ++ f x
 joined_push f xs x = sym (flat_map_more f [] xs x)
 
+-- a unit that goes by is answered by its record, and counted once
+passes : (p : Progress) → (passing (progress_answer p) ≡ progress_answer p ∷ []) × (serves (progress_answer p) + stalls (progress_answer p) ≡ 1)
+passes (progress.Served b) = (refl, refl)
+passes (progress.Stalled b) = (refl, refl)
+
 module _ (w : Instance) (s : State) where
   -- what is done, and that the clock shows the units that went by
   record Going (d : Done) : Type 0 where
@@ -38,49 +45,39 @@ module _ (w : Instance) (s : State) where
     clock : d.state.elapsed ≡ s.elapsed + length d.units
 
   push_answers : (calls : List Call) (c : Call) → flat_map passing (answers w s (calls ++ c ∷ [])) ≡ flat_map passing (answers w s calls) ++ passing (answer w (after w s calls) c)
-  push_answers calls c = ap (flat_map passing) (answers_append w s calls (c ∷ [])) ∙ joined_push passing (answers w s calls) (answer w (after w s calls) c)
+  push_answers calls c = simp (answers_append, joined_push)
 
   push_state : (d : Done) (c : Call) → d.state ≡ after w s d.calls → next w d.state c ≡ after w s (d.calls ++ c ∷ [])
-  push_state d c is = ap (λ x. next w x c) is ∙ sym (after_append w s d.calls (c ∷ []))
+  push_state d c is = simp (after_append, is)
 
-  -- a call whose unit does not go by, if it is one, leaves no record
-  push_silent : (d : Done) (c : Call) → Doing w s d → passing (answer w d.state c) ≡ [] → Doing w s (called w c d)
-  push_silent d c doing silent = record {
-    tallied = push_state d c doing.tallied;
-    answered =
-        push_answers d.calls c ∙ ap (λ x. flat_map passing (answers w s d.calls) ++ passing (answer w x c)) (sym doing.tallied)
-        ∙ ap (λ l. flat_map passing (answers w s d.calls) ++ l) silent ∙ append-nil _ ∙ doing.answered;
-    numbered = doing.numbered;
-  }
-
-  order_going : (d : Done) (i o : ℕ) → Going d → Going (called w (call.Order i o) d)
-  order_going d i o g = record {
-    doing = push_silent d (call.Order i o) g.doing refl;
-    clock = omega (arith, next_elapsed w d.state (call.Order i o), g.clock);
+  -- an order, or a unit that is refused, leaves no record
+  silent_going : (d : Done) (c : Call) (r : Outcome) → answer w d.state c ≡ told r → Going d → Going (called w c d)
+  silent_going d c r is g = record {
+    doing = record {
+      tallied = push_state d c g.doing.tallied;
+      answered = push_answers d.calls c ∙ rw (← g.doing.tallied, is, append-nil) g.doing.answered;
+      numbered = g.doing.numbered;
+    };
+    clock = omega (arith, next_elapsed w d.state c, ap serves is, ap stalls is, g.clock);
   }
 
   -- a unit that goes by leaves its record
-  unit_going : (d : Done) (u : UnitRecord) → Going d → answer w d.state call.Unit ≡ answer_of u → passing (answer_of u) ≡ answer_of u ∷ []
-      → (next w d.state call.Unit).elapsed ≡ d.state.elapsed + 1 → u.number ≡ d.state.elapsed + 1
+  unit_going : (d : Done) (u : UnitRecord) → answer w d.state call.Unit ≡ answer_of u → u.number ≡ (next w d.state call.Unit).elapsed → Going d
       → Going (record { state = next w d.state call.Unit; calls = d.calls ++ call.Unit ∷ []; units = d.units ++ u ∷ [] })
-  unit_going d u g is loud later number = record {
-    doing = record {
-      tallied = push_state d call.Unit g.doing.tallied;
-      answered =
-          push_answers d.calls call.Unit ∙ ap (λ x. flat_map passing (answers w s d.calls) ++ passing (answer w x call.Unit)) (sym g.doing.tallied)
-          ∙ ap (λ a. flat_map passing (answers w s d.calls) ++ passing a) is ∙ ap (λ l. flat_map passing (answers w s d.calls) ++ l) loud
-          ∙ ap (λ l. l ++ answer_of u ∷ []) g.doing.answered ∙ sym (map_push answer_of d.units u);
-      numbered =
-          let n = length d.units in
-          let one_more = length_push d.units u in
-          let last : u.number ≡ suc s.elapsed + n = omega (arith, number, g.clock) in
-          let count : range_with_len (suc s.elapsed) (n + 1) ≡ range_with_len (suc s.elapsed) n ++ (suc s.elapsed + n) ∷ [] =
-          sym (map-id (range_with_len (suc s.elapsed) (n + 1))) ∙ map-range_with_len_more (λ (k : ℕ). k) (suc s.elapsed) n (suc s.elapsed + n) refl
-          ∙ ap (λ l. l ++ (suc s.elapsed + n) ∷ []) (map-id (range_with_len (suc s.elapsed) n)) in
-          map_push number_of d.units u ∙ (λ k. g.doing.numbered k ++ last k ∷ []) ∙ sym (ap (range_with_len (suc s.elapsed)) one_more ∙ count);
-    };
-    clock = omega (arith, later, g.clock, length_push d.units u);
-  }
+  unit_going d u is number g =
+      let (loud, one) = passes u.progress in
+      let later : (next w d.state call.Unit).elapsed ≡ d.state.elapsed + 1 = omega (arith, next_elapsed w d.state call.Unit, ap serves is, ap stalls is, one) in
+      record {
+        doing = record {
+          tallied = push_state d call.Unit g.doing.tallied;
+          answered = push_answers d.calls call.Unit ∙ rw (← g.doing.tallied, is, loud, g.doing.answered) (sym (map_push answer_of d.units u));
+          numbered =
+              let last : suc s.elapsed + length d.units ≡ u.number = omega (arith, number, later, g.clock) in
+              let count = simp map-id at (map-range_with_len_more (λ (k : ℕ). k) (suc s.elapsed) (length d.units) u.number last) in
+              rw (map_push, length_push, g.doing.numbered) (sym count);
+        };
+        clock = omega (arith, later, g.clock, length_push d.units u);
+      }
 
 module _ (w : Instance) (s : State) (bytes : List ℕ) (few : w.disks ≤ 4) (byte : (i : ℕ) → get_or bytes i 0 < 2 ^ 8) where
   -- between two units, with p the place of the next byte
@@ -118,6 +115,10 @@ module _ (w : Instance) (s : State) (bytes : List ℕ) (few : w.disks ≤ 4) (by
     cut : (k : ℕ) (t : Read) (e : Done) → Inside p m d k t e → Cut d e
     cut k t e x = record { rest = order_calls t.orders; units = x.units; calls = x.calls; going = x.going }
 
+    -- and by a call that leaves no record
+    cut_called : (k : ℕ) (t : Read) (e : Done) (c : Call) (r : Outcome) → answer w e.state c ≡ told r → Inside p m d k t e → Cut d (called w c e)
+    cut_called k t e c r is x = record { rest = order_calls t.orders ++ c ∷ []; units = x.units; calls = simp (x.calls, append_assoc); going = silent_going w s e c r is x.going }
+
     -- a disk whose bit does not stand
     skip : (k : ℕ) (t : Read) (e : Done) → has m k ≡ false → Inside p m d k t e → Inside p m d (suc k) t e
     skip k t e off x = record {
@@ -130,54 +131,50 @@ module _ (w : Instance) (s : State) (bytes : List ℕ) (few : w.disks ≤ 4) (by
       four = x.four;
       clear = λ j l. x.clear j (omega arith);
       bits = λ j l. ⊎_elim
-          (λ (is : j ≡ k). ap (λ n. is_some (get_or t.orders n None)) is ∙ ap is_some (x.clear k (omega arith)) ∙ sym off ∙ ap (has m) (sym is))
+          (λ (is : j ≡ k). let none = ap is_some (x.clear k (omega arith)) in cc)
           (λ (ne : j ≡ k → ⊥). x.bits j (omega (arith, ne)))
           (cases_eq j k);
     }
 
     -- an order that is accepted
-    took : (k : ℕ) (t : Read) (e : Done) → (i o : ℕ) → get_or bytes t.place 0 ≡ i → get_or bytes (t.place + 1) 0 ≡ o
+    took : (k : ℕ) (t : Read) (e : Done) → (o : Order) → get_or bytes t.place 0 ≡ o.fetch → get_or bytes (t.place + 1) 0 ≡ o.evict
         → t.place + 2 ≤ length bytes → k < 4 → has m k ≡ true → Inside p m d k t e
-        → Inside p m d (suc k) (record { place = t.place + 2; orders = set t.orders k (Some (record { fetch = i; evict = o })) }) (called w (call.Order i o) e)
-    took k t e i o is-in is-out room low on x =
-        let order : Order = record { fetch = i; evict = o } in
+        → Inside p m d (suc k) (record { place = t.place + 2; orders = set t.orders k (Some o) }) (called w (call.Order o) e)
+    took k t e o is-in is-out room low on x =
         let inside : k < length t.orders = omega (arith, x.four) in
         let two : t.place + 2 ≡ t.place + 1 + 1 = omega arith in
+        let (bytes_more, call_more) = order_set t.orders k o inside x.clear in
         record {
           units = x.units;
-          calls = ap (λ l. l ++ call.Order i o ∷ []) x.calls ∙ append_assoc d.calls (order_calls t.orders) (call.Order i o ∷ [])
-              ∙ ap (λ l. d.calls ++ l) (sym (calls_set t.orders k order inside x.clear));
-          going = order_going w s e i o x.going;
+          calls = simp (x.calls, call_more, append_assoc);
+          going = silent_going w s e (call.Order o) (order_outcome w e.state o) refl x.going;
           onward = omega (arith, x.onward);
           low = room;
           read =
-              ap (λ n. take n bytes) two ∙ take_more bytes (t.place + 1) 0 (omega arith) ∙ ap (λ l. l ++ get_or bytes (t.place + 1) 0 ∷ []) (take_more bytes t.place 0 (omega arith))
-              ∙ append_assoc (take t.place bytes) (get_or bytes t.place 0 ∷ []) (get_or bytes (t.place + 1) 0 ∷ [])
-              ∙ (λ j. x.read j ++ is-in j ∷ is-out j ∷ [])
-              ∙ append_assoc (take p bytes ++ m ∷ []) (pairs t.orders) (i ∷ o ∷ [])
-              ∙ ap (λ l. (take p bytes ++ m ∷ []) ++ l) (sym (pairs_set t.orders k order inside x.clear));
-          four = length-set t.orders k (Some order) ∙ x.four;
-          clear = λ j l. get_or-set_other t.orders k j (Some order) None (λ is. omega arith) ∙ x.clear j (omega arith);
+              let first = take_more bytes t.place 0 (omega arith) in
+              let second = take_more bytes (t.place + 1) 0 (omega arith) in
+              rw (two, second, first, x.read, is-in, is-out, bytes_more) (simp append_assoc);
+          four = length-set t.orders k (Some o) ∙ x.four;
+          clear = λ j l. get_or-set_other t.orders k j (Some o) None (λ is. omega arith) ∙ x.clear j (omega arith);
           bits = λ j l. ⊎_elim
-              (λ (is : j ≡ k). ap (λ n. is_some (get_or (set t.orders k (Some order)) n None)) is ∙ ap is_some (get_or-set_same t.orders k (Some order) None inside) ∙ sym on ∙ ap (has m) (sym is))
-              (λ (ne : j ≡ k → ⊥). ap is_some (get_or-set_other t.orders k j (Some order) None ne) ∙ x.bits j (omega (arith, ne)))
+              (λ (is : j ≡ k). let some = ap is_some (get_or-set_same t.orders k (Some o) None inside) in cc)
+              (λ (ne : j ≡ k → ⊥). ap is_some (get_or-set_other t.orders k j (Some o) None ne) ∙ x.bits j (omega (arith, ne)))
               (cases_eq j k);
         }
 
     -- the order of a disk, however it ends
     ordered : (k : ℕ) (t : Read) (e : Done) → has m k ≡ true → Inside p m d k t e → Kept p m d (suc k) (give_order w bytes p k t e)
     ordered k t e on x =
-        let i = get_or bytes t.place 0 in
-        let o = get_or bytes (t.place + 1) 0 in
+        let o : Order = record { fetch = get_or bytes t.place 0; evict = get_or bytes (t.place + 1) 0 } in
         let keeps : Way Read → Type 0 = Kept p m d (suc k) in
         cond_both (ltb (length bytes) (t.place + 2)) _ _ keeps (λ short. cut k t e x)
-        (λ long. cond_both (barred w k i) _ _ keeps (λ bar. cut k t e x)
+        (λ long. cond_both (barred w k o.fetch) _ _ keeps (λ bar. cut k t e x)
         (λ free.
-        let low : k < 4 = omega (arith, few, leb-false w.disks k (or_parts (leb w.disks k) (ltb i w.blocks && not (eqb (home w i) k)) free).0) in
-        let after-order : Inside p m d (suc k) (record { place = t.place + 2; orders = set t.orders k (Some (record { fetch = i; evict = o })) }) (called w (call.Order i o) e) =
-        took k t e i o refl refl (ltb-false (length bytes) (t.place + 2) long) low on x in
-        by (order_outcome w e.state i o) (record { place = t.place + 2; orders = set t.orders k (Some (record { fetch = i; evict = o })) }) (called w (call.Order i o) e) after-order
-        (record { rest = order_calls t.orders ++ call.Order i o ∷ []; units = x.units; calls = ap (λ l. l ++ call.Order i o ∷ []) x.calls ∙ append_assoc d.calls (order_calls t.orders) (call.Order i o ∷ []); going = order_going w s e i o x.going })))
+        let low : k < 4 = grind (arith, nat_tests) in
+        let after-order : Inside p m d (suc k) (record { place = t.place + 2; orders = set t.orders k (Some o) }) (called w (call.Order o) e) =
+        took k t e o refl refl (ltb-false (length bytes) (t.place + 2) long) low on x in
+        by (order_outcome w e.state o) (record { place = t.place + 2; orders = set t.orders k (Some o) }) (called w (call.Order o) e) after-order
+        (cut_called k t e (call.Order o) (order_outcome w e.state o) refl x)))
       where
         by : (r : Outcome) (u : Read) (f : Done) → Inside p m d (suc k) u f → Cut d f → Kept p m d (suc k) (unless_refused p r u f)
         by accepted u f x c = x
@@ -225,35 +222,23 @@ module _ (w : Instance) (s : State) (bytes : List ℕ) (few : w.disks ≤ 4) (by
 
   module _ (p m : ℕ) (d : Done) (before : At p d) (t : Read) (e : Done) (is_byte_lem : m < 2 ^ 8) (x : Inside p m d 8 t e) where
     -- a unit that goes by
-    went : (u : UnitRecord) → u.orders ≡ t.orders → answer w e.state call.Unit ≡ answer_of u → passing (answer_of u) ≡ answer_of u ∷ []
-        → (next w e.state call.Unit).elapsed ≡ e.state.elapsed + 1 → u.number ≡ e.state.elapsed + 1
+    went : (u : UnitRecord) → u.orders ≡ t.orders → answer w e.state call.Unit ≡ answer_of u → u.number ≡ (next w e.state call.Unit).elapsed
         → At t.place (record { state = next w e.state call.Unit; calls = e.calls ++ call.Unit ∷ []; units = e.units ++ u ∷ [] })
-    went u same is loud later number = record {
+    went u same is number = record {
       low = x.low;
       read =
           let bits = marks_are t.orders m is_byte_lem x.clear x.bits in
-          x.read ∙ append_assoc (take p bytes) (m ∷ []) (pairs t.orders) ∙ (λ k. before.read k ++ bits k ∷ pairs t.orders)
-          ∙ (λ k. flat_map spelled (sym x.units k) ++ marks (sym same k) ∷ pairs (sym same k)) ∙ sym (joined_push spelled e.units u);
-      given =
-          ap (λ l. l ++ call.Unit ∷ []) x.calls ∙ append_assoc d.calls (order_calls t.orders) (call.Unit ∷ [])
-          ∙ ap (λ l. l ++ (order_calls t.orders ++ call.Unit ∷ [])) before.given
-          ∙ (λ k. flat_map unit_calls (sym x.units k) ++ (order_calls (sym same k) ++ call.Unit ∷ [])) ∙ sym (joined_push unit_calls e.units u);
-      going = unit_going w s e u x.going is loud later number;
+          simp (x.read, before.read, bits, joined_push, x.units, same, append_assoc);
+      given = simp (x.calls, before.given, joined_push, x.units, same, append_assoc);
+      going = unit_going w s e u is number x.going;
     }
 
     closes : KeptAt p d (closed p t (answer w e.state call.Unit) (called w call.Unit e))
     closes =
         unit_by w e.state (λ a _. answer w e.state call.Unit ≡ a → KeptAt p d (closed p t a (called w call.Unit e)))
-        (λ n values is. record {
-          rest = order_calls t.orders ++ call.Unit ∷ [];
-          units = x.units;
-          calls = ap (λ l. l ++ call.Unit ∷ []) x.calls ∙ append_assoc d.calls (order_calls t.orders) (call.Unit ∷ []);
-          going = record { doing = push_silent w s e call.Unit x.going.doing (ap passing is); clock = omega (arith, next_elapsed w e.state call.Unit, ap serves is, ap stalls is, x.going.clock) };
-        })
-        (λ b g is. let later : (next w e.state call.Unit).elapsed ≡ e.state.elapsed + 1 = omega (arith, next_elapsed w e.state call.Unit, ap serves is, ap stalls is) in
-        (x.onward, went (record { number = (next w e.state call.Unit).elapsed; progress = progress.Served b; orders = t.orders }) refl is refl later later))
-        (λ b g is. let later : (next w e.state call.Unit).elapsed ≡ e.state.elapsed + 1 = omega (arith, next_elapsed w e.state call.Unit, ap serves is, ap stalls is) in
-        (x.onward, went (record { number = (next w e.state call.Unit).elapsed; progress = progress.Stalled b; orders = t.orders }) refl is refl later later))
+        (λ n values is. cut_called p m d 8 t e call.Unit (refused n values) is x)
+        (λ b g is. (x.onward, went (record { number = (next w e.state call.Unit).elapsed; progress = progress.Served b; orders = t.orders }) refl is refl))
+        (λ b g is. (x.onward, went (record { number = (next w e.state call.Unit).elapsed; progress = progress.Stalled b; orders = t.orders }) refl is refl))
         refl
 
   unit_keeps : (p : ℕ) (d : Done) → At p d → KeptAt p d (replay_unit w bytes p d)
@@ -274,8 +259,8 @@ module _ (w : Instance) (s : State) (bytes : List ℕ) (few : w.disks ≤ 4) (by
     record {
       bytes_left = drop p bytes;
       calls_left = c.rest;
-      spelled_first = sym (take-append-drop p bytes) ∙ (λ k. x.read k ++ drop p bytes) ∙ (λ k. flat_map spelled (sym c.units k) ++ drop p bytes);
-      given_first = c.calls ∙ (λ k. x.given k ++ c.rest) ∙ (λ k. flat_map unit_calls (sym c.units k) ++ c.rest);
+      spelled_first = rw (c.units, ← x.read) (sym (take-append-drop p bytes));
+      given_first = rw (c.units, ← x.given) c.calls;
     },
   )
 

@@ -4,10 +4,10 @@ use Rattle.maps.specs.Maps.{has}
 use Rattle.faults.specs.Outcomes.{Outcome, accepted, refused}
 use Rattle.instances.specs.Instances.{Instance, home}
 use Rattle.tallies.specs.declared.call.Call.{Call}
+use Rattle.tallies.specs.declared.call.Order.{Order}
 use Rattle.tallies.specs.declared.call.Call.TheVariants as call
 use Rattle.tallies.specs.Tally.{State, Answer, told, served, stalled, finished, order_outcome, answer, next}
 use Rattle.tallies.specs.declared.reply.Progress.TheVariants as progress
-use Rattle.schedules.specs.declared.record.Order.{Order}
 use Rattle.schedules.specs.declared.record.UnitRecord.{UnitRecord}
 use Rattle.faults.specs.declared.replay.ReplayFault.{ReplayFault}
 use Rattle.faults.specs.Faults.{Fault, fault_at, replay_fault}
@@ -60,12 +60,11 @@ module _ (w : Instance) (bytes : List ℕ) where
   -- the order of a disk: its two bytes are read, its bit is tried, and the order is given
   abbrev pub give_order : ℕ → ℕ → Read → Done → Way Read
   give_order p disk t d =
-      let i = slice_index_or bytes t.place 0 in
-      let o = slice_index_or bytes (t.place + 1) 0 in
+      let x : Order = record { fetch = slice_index_or bytes t.place 0; evict = slice_index_or bytes (t.place + 1) 0 } in
       cond (nat_lt (length bytes) (t.place + 2)) (stops (fault_at 11 (length bytes)) d)
-      (cond (barred w disk i) (stops (fault_at 12 p) d)
-      (unless_refused p (order_outcome w d.state i o)
-      (record { place = t.place + 2; orders = slice_set t.orders disk (Some (record { fetch = i; evict = o })) }) (called w (call.Order i o) d)))
+      (cond (barred w disk x.fetch) (stops (fault_at 12 p) d)
+      (unless_refused p (order_outcome w d.state x)
+      (record { place = t.place + 2; orders = slice_set t.orders disk (Some x) }) (called w (call.Order x) d)))
 
   -- the order of a disk, if its bit stands in the map byte at place p
   abbrev pub give_standing : ℕ → ℕ → ℕ → Read → Done → Way Read

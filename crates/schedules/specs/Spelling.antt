@@ -3,10 +3,10 @@ use Rattle.std.specs.Prelude.{◌≡◌, ℕ, suc, ◌+◌, ◌*◌, ◌^◌, �
 use Rattle.std.specs.List.{range_with_len, flat_map}
 use Rattle.instances.specs.Instances.{Instance}
 use Rattle.tallies.specs.declared.call.Call.{Call}
+use Rattle.tallies.specs.declared.call.Order.{Order}
 use Rattle.tallies.specs.declared.call.Call.TheVariants as call
 use Rattle.tallies.specs.Tally.{State, Answer, told, served, stalled, finished, after, answers}
 use Rattle.tallies.specs.Replies.{progress_answer}
-use Rattle.schedules.specs.declared.record.Order.{Order}
 use Rattle.schedules.specs.declared.record.UnitRecord.{UnitRecord}
 use Rattle.schedules.specs.Replay.{Done, Way, goes, stops, replayed}
 
@@ -25,7 +25,7 @@ pairs (Some o ∷ os) = o.fetch ∷ o.evict ∷ pairs os
 abbrev pub order_calls : List (Option Order) → List Call
 order_calls [] = []
 order_calls (None ∷ os) = order_calls os
-order_calls (Some o ∷ os) = call.Order o.fetch o.evict ∷ order_calls os
+order_calls (Some o ∷ os) = call.Order o ∷ order_calls os
 
 -- a unit's bytes: map byte and orders; its calls: orders and unit
 abbrev pub spelled : UnitRecord → List ℕ

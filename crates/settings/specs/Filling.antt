@@ -1,13 +1,7 @@
 -- When a setting is filled, and what refuses it. Assumes nothing.
-use Rattle.std.specs.Prelude.{◌≡◌, ℕ, suc, ◌^◌, cond, ◌&&◌, ◌||◌, List, [], ◌∷◌, length, Ok, Err, Result, ◌==◌, count_ones, nat_lt}
+use Rattle.std.specs.Prelude.{◌≡◌, ℕ, suc, ◌^◌, cond, ◌&&◌, ◌||◌, List, [], ◌∷◌, length, ◌==◌, count_ones, nat_lt}
 use Rattle.faults.specs.Outcomes.{Outcome, accepted, refused, and_then}
-use Rattle.faults.specs.declared.setting.SettingFault.{SettingFault}
-use Rattle.faults.specs.Faults.{setting_fault}
 use Rattle.settings.specs.Contents.{Content, Within}
-
-abbrev pub outcome : {X : Type 0} → Result X SettingFault → Outcome
-outcome (Ok x) = accepted
-outcome (Err e) = setting_fault e
 
 -- the figures m, k and n in turn: 1 to 64 blocks, 1 to m of them cached, at most 200 requests
 abbrev pub try_figures : ℕ → ℕ → ℕ → Outcome

@@ -1,8 +1,11 @@
 // A setting made, and filled in place.
-ghost use Rattle.std.specs.Prelude.{◌≡◌, ◌<◌, ◌≤◌, [], length, IfOk, vec_capacity};
-ghost use Rattle.settings.specs.Contents.{content};
-ghost use Rattle.settings.specs.Filling.{outcome, try_figures, try_initial, try_requests, try_content, filled, FillsWithin};
+ghost use Rattle.std.specs.Prelude.{◌≡◌, ◌<◌, ◌≤◌, [], length, IfOk, OnOk, vec_capacity};
+ghost use Rattle.faults.specs.Faults.{setting_fault};
+ghost use Rattle.faults.specs.Outcomes.{answered};
+ghost use Rattle.settings.specs.Contents.{Within, content, wanted};
+ghost use Rattle.settings.specs.Filling.{try_figures, try_initial, try_requests, try_content, filled, FillsWithin};
 
+use crate::contents::Contents;
 use crate::setting::Setting;
 use faults::{Figure, SettingFault};
 use maps::{ones, within};
@@ -14,7 +17,7 @@ const MOST_REQUESTS: usize = 200;
 
 // Whether the initial map is `size` of the blocks.
 fn try_initial(blocks: u8, size: u8, initial: u64) -> Result<(), SettingFault>
-    ensures { outcome result ≡ try_initial blocks size initial }
+    ensures { answered setting_fault result ≡ try_initial blocks size initial }
 {
     let count = ones(initial);
     if within(initial, blocks) && count == size {
@@ -24,9 +27,10 @@ fn try_initial(blocks: u8, size: u8, initial: u64) -> Result<(), SettingFault>
 }
 
 // Whether every request names one of the blocks.
+// A `for` over the lent bytes with their index, and not `position`: a rule of the project asks for this form.
 fn try_requests(blocks: u8, requests: &[u8]) -> Result<(), SettingFault>
     requires { length requests.now ≤ 200 }
-    ensures { outcome result ≡ try_requests blocks 1 requests.now }
+    ensures { answered setting_fault result ≡ try_requests blocks 1 requests.now }
 {
     for (i, block) in requests.iter().enumerate() {
         if *block >= blocks {
@@ -39,12 +43,14 @@ fn try_requests(blocks: u8, requests: &[u8]) -> Result<(), SettingFault>
 }
 
 // Tries all that a setting is filled with: figures, initial map, requests.
-fn try_content(blocks: u8, size: u8, initial: u64, requests: &[u8]) -> Result<(), SettingFault>
-    ensures { outcome result ≡ try_content (record { blocks = blocks; size = size; initial = initial; requests = requests.now }) }
+#[tactic(auto, using(crate::proofs::Limits::within_ok))]
+fn try_content(new: &Contents) -> Result<(), SettingFault>
+    ensures answers { answered setting_fault result ≡ try_content (wanted new.now) }
+    ensures within { OnOk result (Within (wanted new.now)) }
 {
-    Setting::try_figures(blocks, size, requests.len())?;
-    try_initial(blocks, size, initial)?;
-    try_requests(blocks, requests)
+    Setting::try_figures(new.blocks, new.size, new.requests.len())?;
+    try_initial(new.blocks, new.size, new.initial)?;
+    try_requests(new.blocks, new.requests)
 }
 
 // Writes the requests in the place of those that were there.
@@ -54,7 +60,7 @@ fn replace_requests(kept: &mut Vec<u8>, requests: &[u8])
     ensures room { vec_capacity kept.old ≤ vec_capacity kept.new }
 {
     kept.clear();
-    let _ = kept.extend_from_slice(requests);
+    kept.extend_from_slice(requests).unwrap();
 }
 
 impl Setting {
@@ -73,12 +79,12 @@ impl Setting {
 
     // Tries the figures alone: the number of blocks, the cache's size, the number of requests.
     pub fn try_figures(blocks: u8, size: u8, requests: usize) -> Result<(), SettingFault>
-        ensures { outcome result ≡ try_figures blocks size requests }
+        ensures { answered setting_fault result ≡ try_figures blocks size requests }
     {
-        if blocks < 1 || blocks > MOST_BLOCKS {
+        if !(1..=MOST_BLOCKS).contains(&blocks) {
             return Err(SettingFault::Figure(Figure::Blocks));
         }
-        if size < 1 || size > blocks {
+        if !(1..=blocks).contains(&size) {
             return Err(SettingFault::Figure(Figure::Size));
         }
         if requests > MOST_REQUESTS {
@@ -88,22 +94,16 @@ impl Setting {
     }
 
     // Fills the setting, or refuses and changes nothing.
-    pub fn fill(
-        &mut self,
-        blocks: u8,
-        size: u8,
-        initial: u64,
-        requests: &[u8],
-    ) -> Result<(), SettingFault>
-        ensures answers { outcome result ≡ try_content (record { blocks = blocks; size = size; initial = initial; requests = requests.now }) }
-        ensures limits { FillsWithin (record { blocks = blocks; size = size; initial = initial; requests = requests.now }) (outcome result) }
-        ensures content { content self.new ≡ filled (outcome result) (record { blocks = blocks; size = size; initial = initial; requests = requests.now }) (content self.old) }
+    pub fn fill(&mut self, new: &Contents) -> Result<(), SettingFault>
+        ensures answers { answered setting_fault result ≡ try_content (wanted new.now) }
+        ensures limits { FillsWithin (wanted new.now) (answered setting_fault result) }
+        ensures content { content self.new ≡ filled (answered setting_fault result) (wanted new.now) (content self.old) }
     {
-        try_content(blocks, size, initial, requests)?;
-        replace_requests(&mut self.requests, requests);
-        self.blocks = blocks;
-        self.size = size;
-        self.initial = initial;
+        try_content(new)?;
+        replace_requests(&mut self.requests, new.requests);
+        self.blocks = new.blocks;
+        self.size = new.size;
+        self.initial = new.initial;
         Ok(())
     }
 }

@@ -1,5 +1,5 @@
 // What a setting tells of itself.
-ghost use Rattle.std.specs.Prelude.{◌≡◌, length, if◌then◌else◌, Some, None, nat_lt, slice_index};
+ghost use Rattle.std.specs.Prelude.{◌≡◌, length, slice_get};
 ghost use Rattle.settings.specs.Contents.{content};
 
 use crate::setting::Setting;
@@ -35,7 +35,7 @@ impl Setting {
 
     // The block that is asked for once `cursor` requests are served, unless none is left.
     pub fn asked(&self, cursor: u8) -> Option<u8>
-        ensures { result ≡ (if nat_lt cursor (length (content self.now).requests) then Some (slice_index (content self.now).requests cursor) else None) }
+        ensures { result ≡ slice_get (content self.now).requests cursor }
     {
         self.requests.get(cursor as usize).copied()
     }

@@ -25,11 +25,11 @@ answers_cached w s = unit_by w s (λ a t. AnswersCached w s a) (λ n values. tt)
 pub tallies_lawful : TalliesLawful
 tallies_lawful w disks calls sound four = record {
   times = times w disks calls;
-  lasts = λ first rest i o split ok.
+  lasts = λ first rest x split ok.
       let s = tally w disks first in
-      let es = log w (next w s (call.Order i o)) rest in
-      let is : tally w disks calls ≡ after w s (call.Order i o ∷ rest) = ap (tally w disks) split ∙ after_append w (beginning w disks) first (call.Order i o ∷ rest) in
-      subst (Lasts w s i es) (sym is) (lasts w disks first i o rest sound four ok);
+      let es = log w (next w s (call.Order x)) rest in
+      let is : tally w disks calls ≡ after w s (call.Order x ∷ rest) = ap (tally w disks) split ∙ after_append w (beginning w disks) first (call.Order x ∷ rest) in
+      subst (Lasts w s x.fetch es) (sym is) (lasts w disks first x rest sound four ok);
   shared = λ sane. let kept = kept_tally w disks calls sound four sane in record { full = kept.full; apart = kept.apart };
   residents = residents w disks calls sound four;
   cached = λ first rest split. answers_cached w (tally w disks first);

@@ -1,21 +1,21 @@
 -- Which blocks are cached, by the calls and their answers. Assumes nothing.
-use Rattle.std.proofs.Common.{◌≡◌, ℕ, ◌+◌, ◌≤◌, true, false, List, [], ◌∷◌, length, set, Some, None, sym, refl, ap, ◌∙◌, inl, inr, ⊎_elim, arith, get_or-set_other, get_or-set_same}
-use Rattle.std.proofs.lemmas.Bool.{or_cases, both_ways, cases_eq}
-use Rattle.maps.specs.Maps.{has, without}
+use Rattle.std.proofs.Common.{◌≡◌, ℕ, ◌+◌, ◌≤◌, true, false, List, [], ◌∷◌, length, Some, sym, refl, ap, ◌∙◌, inl, inr, ⊎_elim, arith}
+use Rattle.std.proofs.lemmas.Bool.{or_cases}
+use Rattle.maps.specs.Maps.{has}
 use Rattle.faults.specs.Outcomes.{accepted, refused}
 use Rattle.maps.proofs.Maps.{has_or, without_same, without_other}
 use Rattle.arrays.specs.declared.fetch.Fetch.{Fetch}
 use Rattle.arrays.specs.Disks.{Disks, holds, arrivals}
-use Rattle.arrays.proofs.Steps.{stepped_at}
 use Rattle.instances.specs.Instances.{Instance, Sound, home}
 use Rattle.tallies.specs.declared.call.Call.{Call}
+use Rattle.tallies.specs.declared.call.Order.{Order}
 use Rattle.tallies.specs.declared.call.Call.TheVariants as call
 use Rattle.tallies.specs.Tally.{State, Answer, told, served, stalled, any_busy, beginning, passed, answer, next, after, tally}
 use Rattle.tallies.specs.Logs.{Entry, log, serves, stalls, units, Fetches, Evicts, Unevicted, Arrived, Resident}
 use Rattle.tallies.specs.Laws.{Residents}
-use Rattle.tallies.proofs.Flying.{some_none, idle_all, arriving, before}
-use Rattle.tallies.proofs.Keeping.{Kept, one_fetch, kept_next, kept_first, void_after}
-use Rattle.tallies.proofs.Landing.{refused_told, stays, lands, begins}
+use Rattle.tallies.proofs.Flying.{idle_all, begun_holds, arriving, before}
+use Rattle.tallies.proofs.Keeping.{Kept, kept_next, kept_first, void_after}
+use Rattle.tallies.proofs.Landing.{stays, lands, begins}
 use Rattle.tallies.proofs.Moves.{Allowed, began, move_by}
 
 -- where a cached block came from, looking back from the end of the entries to state s
@@ -25,7 +25,7 @@ data Whence (w : Instance) (s : State) (b : ℕ) (es : List Entry) : Type 0 wher
   came_in : Arrived w.time b es → Whence w s b es
 
 refused_evicts : (b : ℕ) (c : Call) (n : ℕ) (values : List ℕ) → Evicts b c (told (refused n values)) → ⊥
-refused_evicts b (call.Order i o) n values e = refused_told e.0
+refused_evicts b (call.Order x) n values e = cc
 refused_evicts b call.Unit n values e = e
 
 module _ (w : Instance) (s : State) (kept : Kept w s) (b : ℕ) (es : List Entry) where
@@ -34,25 +34,16 @@ module _ (w : Instance) (s : State) (kept : Kept w s) (b : ℕ) (es : List Entry
   whence_refused c n values (flew_in d f h is l u) = flew_in d f h is (omega arith) (refused_evicts b c n values, u)
   whence_refused c n values (came_in a) = came_in (inr a)
 
-  whence_began : (i o : ℕ) → Allowed w s i o → Whence w (began w s i o) b es → Whence w s b (record { call = call.Order i o; answer = told accepted } ∷ es)
-  whence_began i o ok (kept_in h u) =
-      let ne : b ≡ o → ⊥ = λ e. both_ways (has (without s.cache o) b) (ap (has (without s.cache o)) e ∙ without_same s.cache o) h in
-      kept_in (sym (without_other s.cache o b ne) ∙ h) ((λ e. ne (sym e.1)), u)
-  whence_began i o ok (flew_in e f h is l u) =
-      let d = home w i in
-      let new : Fetch = record { block = i; left = w.time } in
+  whence_began : (x : Order) → Allowed w s x → Whence w (began w s x) b es → Whence w s b (record { call = call.Order x; answer = told accepted } ∷ es)
+  whence_began x ok (kept_in h u) =
+      let ne : b ≡ x.evict → ⊥ = λ e. let gone = without_same s.cache x.evict in cc in
+      kept_in (sym (without_other s.cache x.evict b ne) ∙ h) ((λ e. ne (sym e.1)), u)
+  whence_began x ok (flew_in e f h is l u) =
       ⊎_elim
-      (λ (at_home : e ≡ d).
-      let here : holds (set s.disks d (Some new)) d ≡ Some new = get_or-set_same s.disks d (Some new) None (kept.room i) in
-      let same = one_fetch (holds (set s.disks d (Some new)) d) f new (sym (ap (holds (set s.disks d (Some new))) at_home) ∙ h) here in
-      let left = ap (λ (x : Fetch). x.left) same in
-      came_in (inl ((refl, sym (ap (λ (x : Fetch). x.block) same) ∙ is), omega arith, u)))
-      (λ ne.
-      let old = sym (get_or-set_other s.disks d e (Some new) None ne) ∙ h in
-      flew_in e f old is (omega arith)
-      ((λ ev. both_ways (has s.cache f.block) (kept.apart e f old) (ap (has s.cache) (is ∙ sym ev.1) ∙ ok.present)), u))
-      (cases_eq e d)
-  whence_began i o ok (came_in a) = came_in (inr a)
+      (λ p. let left : f.left ≡ w.time = cc p.1 in came_in (inl ((refl, (cc p.1)), omega arith, u)))
+      (λ old. flew_in e f old is (omega arith) ((λ ev. cc (kept.apart e f old, ok.present)), u))
+      (begun_holds s.disks (home w x.fetch) e (record { block = x.fetch; left = w.time }) f (kept.room x.fetch) h)
+  whence_began x ok (came_in a) = came_in (inr a)
 
   whence_passed : (cursor stall : ℕ) (a : Answer) → serves a + stalls a ≡ 1 → Whence w (passed s cursor stall) b es → Whence w s b (record { call = call.Unit; answer = a } ∷ es)
   whence_passed cursor stall a one (kept_in h u) =
@@ -61,7 +52,7 @@ module _ (w : Instance) (s : State) (kept : Kept w s) (b : ℕ) (es : List Entry
       (λ e. let got = arriving s.disks b e in flew_in got.place got.fetch got.there got.is (omega (arith, got.final, one)) ((λ x. x), u))
       (or_cases (has s.cache b) (has (arrivals s.disks) b) (sym (has_or s.cache (arrivals s.disks) b) ∙ h))
   whence_passed cursor stall a one (flew_in d g h is l u) =
-      let was = before (holds s.disks d) g (sym (stepped_at s.disks d) ∙ h) in
+      let was = before s.disks d g h in
       flew_in d was.fetch was.there (was.same ∙ is) (omega (arith, was.left, one)) ((λ x. x), u)
   whence_passed cursor stall a one (came_in x) = came_in (inr x)
 
@@ -76,10 +67,10 @@ whence w s kept b (c ∷ cs) h = whence_next w s kept b (log w (next w s c) cs) 
 
 fetched_lands : (w : Instance) (s : State) → Kept w s → 1 ≤ w.time → (b : ℕ) (c : Call) (cs : List Call) → Fetches b c (answer w s c)
     → w.time ≤ units (log w (next w s c) cs) → Unevicted b (log w (next w s c) cs) → has (after w (next w s c) cs).cache b ≡ true
-fetched_lands w s kept slow b (call.Order i o) cs got long u =
-    let up = begins w s i o kept got.0 in
-    let at : holds (next w s (call.Order i o)).disks (home w i) ≡ Some (record { block = b; left = w.time }) = up ∙ ap (λ n. Some (record { block = n; left = w.time })) got.1 in
-    lands w (next w s (call.Order i o)) (home w i) b w.time cs at slow long u
+fetched_lands w s kept slow b (call.Order x) cs got long u =
+    let up = begins w s x kept got.0 in
+    let at : holds (next w s (call.Order x)).disks (home w x.fetch) ≡ Some (record { block = b; left = w.time }) = up ∙ ap (λ n. Some (record { block = n; left = w.time })) got.1 in
+    lands w (next w s (call.Order x)) (home w x.fetch) b w.time cs at slow long u
 fetched_lands w s kept slow b call.Unit cs got long u = absurd got
 
 arrived_lands : (w : Instance) (s : State) → Kept w s → 1 ≤ w.time → (b : ℕ) (cs : List Call) → Arrived w.time b (log w s cs) → has (after w s cs).cache b ≡ true
@@ -89,7 +80,7 @@ arrived_lands w s kept slow b (c ∷ cs) (inr a) = arrived_lands w (next w s c) 
 
 from_start : (w : Instance) (disks : Disks) → any_busy disks ≡ false → (b : ℕ) (es : List Entry) → Whence w (beginning w disks) b es → Resident w es b
 from_start w disks idle b es (kept_in h u) = inl (h, u)
-from_start w disks idle b es (flew_in d f h is l u) = absurd (some_none f (sym h ∙ idle_all disks idle d))
+from_start w disks idle b es (flew_in d f h is l u) = cc (idle_all disks idle d)
 from_start w disks idle b es (came_in a) = inr a
 
 pub residents : (w : Instance) (disks : Disks) (calls : List Call) → Sound w → length disks ≡ 4 → (tally w disks calls).void ≡ false

@@ -6,6 +6,7 @@ use Rattle.arrays.specs.declared.fetch.Fetch.{Fetch}
 use Rattle.arrays.specs.Disks.{Disks, holds}
 use Rattle.instances.specs.Instances.{Instance, Sound, asked, home}
 use Rattle.tallies.specs.declared.call.Call.{Call}
+use Rattle.tallies.specs.declared.call.Order.{Order}
 use Rattle.tallies.specs.declared.call.Call.TheVariants as call
 use Rattle.tallies.specs.Tally.{State, Answer, told, served, stalled, beginning, answer, next, tally}
 use Rattle.tallies.specs.Logs.{Entry, log, serves, stalls, count, Evicted, Resident}
@@ -20,7 +21,7 @@ pub record Times (s : State) (es : List Entry) : Type 0 where
 pub record Lasts (w : Instance) (s : State) (i : ℕ) (es : List Entry) (t : State) : Type 0 where
   -- before its time is over its home disk has it under way, and accepts no other fetch, and the block is not cached
   pub flies : t.elapsed < s.elapsed + w.time → holds t.disks (home w i) ≡ Some (record { block = i; left = s.elapsed + w.time - t.elapsed })
-  pub alone : t.elapsed < s.elapsed + w.time → (j o : ℕ) → home w j ≡ home w i → answer w t (call.Order j o) ≢ told accepted
+  pub alone : t.elapsed < s.elapsed + w.time → (x : Order) → home w x.fetch ≡ home w i → answer w t (call.Order x) ≢ told accepted
   pub absent : t.elapsed < s.elapsed + w.time → has t.cache i ≡ false
   -- from then on the block is cached, unless an order has evicted it since
   pub lands : s.elapsed + w.time ≤ t.elapsed → (has t.cache i ≡ true) ⊎ Evicted i es
@@ -49,9 +50,9 @@ AnswersCached w s (stalled b) = (b ≡ asked w s.cursor) × (has s.cache b ≡ f
 -- all of them, of the tally of one list of calls; where a law speaks of one call, it stands anywhere in the list
 pub record Lawful (w : Instance) (disks : Disks) (calls : List Call) : Type 0 where
   pub times : Times (tally w disks calls) (log w (beginning w disks) calls)
-  pub lasts : (first rest : List Call) (i o : ℕ) → calls ≡ first ++ call.Order i o ∷ rest
-      → answer w (tally w disks first) (call.Order i o) ≡ told accepted
-      → Lasts w (tally w disks first) i (log w (next w (tally w disks first) (call.Order i o)) rest) (tally w disks calls)
+  pub lasts : (first rest : List Call) (x : Order) → calls ≡ first ++ call.Order x ∷ rest
+      → answer w (tally w disks first) (call.Order x) ≡ told accepted
+      → Lasts w (tally w disks first) x.fetch (log w (next w (tally w disks first) (call.Order x)) rest) (tally w disks calls)
   pub shared : (tally w disks calls).void ≡ false → Shared w (tally w disks calls)
   pub residents : (tally w disks calls).void ≡ false → Residents w (log w (beginning w disks) calls) (tally w disks calls)
   pub cached : (first rest : List Call) → calls ≡ first ++ call.Unit ∷ rest → AnswersCached w (tally w disks first) (answer w (tally w disks first) call.Unit)

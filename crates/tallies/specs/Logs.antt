@@ -38,11 +38,11 @@ units es = count (λ a. serves a + stalls a) es
 
 -- an accepted order fetches block b, or evicts it
 abbrev pub Fetches : ℕ → Call → Answer → Type 0
-Fetches b (call.Order i o) a = (a ≡ told accepted) × (i ≡ b)
+Fetches b (call.Order x) a = (a ≡ told accepted) × (x.fetch ≡ b)
 Fetches b call.Unit a = ⊥
 
 abbrev pub Evicts : ℕ → Call → Answer → Type 0
-Evicts b (call.Order i o) a = (a ≡ told accepted) × (o ≡ b)
+Evicts b (call.Order x) a = (a ≡ told accepted) × (x.evict ≡ b)
 Evicts b call.Unit a = ⊥
 
 -- some entry evicts block b, or none does

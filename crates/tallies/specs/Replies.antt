@@ -17,7 +17,7 @@ abbrev pub unit_told : Result Progress RunFault → Answer
 unit_told (Ok p) = progress_answer p
 unit_told (Err e) = told (run_fault e)
 
-abbrev pub reply_answer : Reply → Answer
-reply_answer reply.Accepted = told accepted
-reply_answer (reply.Passed p) = progress_answer p
-reply_answer (reply.Refused e) = told (run_fault e)
+abbrev pub reply_answer : Result Reply RunFault → Answer
+reply_answer (Ok reply.Accepted) = told accepted
+reply_answer (Ok (reply.Passed p)) = progress_answer p
+reply_answer (Err e) = told (run_fault e)

@@ -6,6 +6,7 @@ use Rattle.arrays.specs.Disks.{Disks, begin_outcome, begin_disks, step_disks, ar
 use Rattle.arrays.specs.Layouts.{Layout}
 use Rattle.instances.specs.Instances.{Instance, asked, last}
 use Rattle.tallies.specs.declared.call.Call.{Call}
+use Rattle.tallies.specs.declared.call.Order.{Order}
 use Rattle.tallies.specs.declared.call.Call.TheVariants as call
 
 -- where a run stands: void or not, the requests served, the units gone by and those of them that stalled, the orders
@@ -42,24 +43,24 @@ abbrev pub layout : Instance → Layout
 layout w = record { disks = w.disks; homes = w.homes }
 
 -- an order's own tests: void, finished, blocks that there are not, a block that is cached already, one that is not cached
-abbrev pub admit : Instance → State → ℕ → ℕ → Outcome
-admit w s in_block out_block =
+abbrev pub admit : Instance → State → Order → Outcome
+admit w s x =
     cond s.void (refused 4 [])
     (cond (finished w s) (refused 5 (s.elapsed ∷ []))
-    (cond (nat_le w.blocks in_block) (refused 7 (in_block ∷ []))
-    (cond (nat_le w.blocks out_block) (refused 7 (out_block ∷ []))
-    (cond (has s.cache in_block) (refused 8 (in_block ∷ []))
-    (cond (has s.cache out_block) accepted (refused 9 (out_block ∷ [])))))))
+    (cond (nat_le w.blocks x.fetch) (refused 7 (x.fetch ∷ []))
+    (cond (nat_le w.blocks x.evict) (refused 7 (x.evict ∷ []))
+    (cond (has s.cache x.fetch) (refused 8 (x.fetch ∷ []))
+    (cond (has s.cache x.evict) accepted (refused 9 (x.evict ∷ [])))))))
 
 -- then the array begins the fetch or refuses
-abbrev pub order_outcome : Instance → State → ℕ → ℕ → Outcome
-order_outcome w s i o = and_then (admit w s i o) (begin_outcome (layout w) s.disks i)
+abbrev pub order_outcome : Instance → State → Order → Outcome
+order_outcome w s x = and_then (admit w s x) (begin_outcome (layout w) s.disks x.fetch)
 
 -- an accepted order takes its block out of the cache; a refused one changes nothing
-abbrev pub ordered : Outcome → Instance → State → ℕ → ℕ → State
-ordered accepted w s i o =
-    record { void = s.void; cursor = s.cursor; elapsed = s.elapsed; stall = s.stall; orders = s.orders + 1; cache = without s.cache o; disks = begin_disks (layout w) w.time s.disks i }
-ordered (refused n values) w s i o = s
+abbrev pub ordered : Outcome → Instance → State → Order → State
+ordered accepted w s x =
+    record { void = s.void; cursor = s.cursor; elapsed = s.elapsed; stall = s.stall; orders = s.orders + 1; cache = without s.cache x.evict; disks = begin_disks (layout w) w.time s.disks x.fetch }
+ordered (refused n values) w s x = s
 
 -- a unit's own tests: void, finished, no unit left to count
 abbrev pub ready : Instance → State → Outcome
@@ -83,11 +84,11 @@ unit_state (stalled b) s = passed s s.cursor (s.stall + 1)
 
 -- the answer to a call, and the state after it
 abbrev pub answer : Instance → State → Call → Answer
-answer w s (call.Order i o) = told (order_outcome w s i o)
+answer w s (call.Order x) = told (order_outcome w s x)
 answer w s call.Unit = unit_answer (ready w s) w s
 
 abbrev pub next : Instance → State → Call → State
-next w s (call.Order i o) = ordered (order_outcome w s i o) w s i o
+next w s (call.Order x) = ordered (order_outcome w s x) w s x
 next w s call.Unit = unit_state (unit_answer (ready w s) w s) s
 
 -- the state after a list of calls, and their answers

@@ -1,5 +1,4 @@
 // What a run answers.
-use faults::RunFault;
 
 // What a unit of time did for the block asked for.
 #[derive(Clone, Copy, PartialEq, Eq, Debug)]
@@ -8,10 +7,9 @@ pub enum Progress {
     Stalled { block: u8 },
 }
 
-// The answer to any call.
+// The answer to a call that is not refused: the order was accepted, or the unit went by.
 #[derive(Clone, Copy, PartialEq, Eq, Debug)]
 pub enum Reply {
     Accepted,
     Passed(Progress),
-    Refused(RunFault),
 }

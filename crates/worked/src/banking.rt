@@ -15,9 +15,14 @@ fn refused_fillings(rt: HostRuntime) -> Result<(), Fail> {
     homes[5] = 4;
     let mut bank = Bank::new();
     // the fetch time is tried before the homes
-    assert_eq!(rt; bank.fill(0, &homes), Err(BankFault::Time));
-    assert_eq!(rt; bank.fill(65, &homes), Err(BankFault::Time));
-    assert_eq!(rt; bank.fill(64, &homes), Err(BankFault::Home { block: 5 }));
+    let refused = [
+        (0, BankFault::Time),
+        (65, BankFault::Time),
+        (64, BankFault::Home { block: 5 }),
+    ];
+    for (time, fault) in refused {
+        assert_eq!(rt; bank.fill(time, &homes), Err(fault));
+    }
     assert_eq!(rt; bank.disks(), 1);
     assert_eq!(rt; bank.fetch_time(), 1);
     Ok(())

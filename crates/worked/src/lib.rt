@@ -6,6 +6,8 @@ mod banking;
 #[cfg(test)]
 mod handing;
 #[cfg(test)]
+mod listing;
+#[cfg(test)]
 mod replaying;
 #[cfg(test)]
 mod running;

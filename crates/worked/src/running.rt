@@ -5,7 +5,12 @@ use runs::{Run, RunFault};
 use settings::Setting;
 use std::alloc::Global;
 use std::test::Fail;
-use tallies::Call;
+use tallies::{Call, Order};
+
+// The order to fetch one block and evict the other.
+fn order(fetch: u8, evict: u8) -> Order {
+    Order { fetch, evict }
+}
 
 // The worked setting above a drive with fetch time 3.
 pub fn worked_run(heap: Global) -> Result<Run<Drive>, Fail> {
@@ -19,11 +24,11 @@ fn worked_calls(rt: HostRuntime) -> Result<(), Fail> {
     let heap = rt.alloc();
     let mut run = worked_run(heap)?;
     let calls = [
-        Call::Order { fetch: 3, evict: 2 },
+        Call::Order(order(3, 2)),
         Call::Unit,
         Call::Unit,
         Call::Unit,
-        Call::Order { fetch: 2, evict: 1 },
+        Call::Order(order(2, 1)),
         Call::Unit,
         Call::Unit,
         Call::Unit,
@@ -36,20 +41,28 @@ fn worked_calls(rt: HostRuntime) -> Result<(), Fail> {
     assert_eq!(rt; run.elapsed(), 7);
     assert_eq!(rt; run.orders(), 2);
     // a finished run refuses, also what it would refuse for another reason
-    assert_eq!(rt; run.order(9, 9), Err(RunFault::Finished { elapsed: 7 }));
+    assert_eq!(rt;
+        run.order(order(9, 9)),
+        Err(RunFault::Finished { elapsed: 7 })
+    );
     Ok(())
 }
 
 #[test]
 fn first_orders(rt: HostRuntime) -> Result<(), Fail> {
     let mut run = worked_run(rt.alloc())?;
-    assert_eq!(rt; run.order(0, 1), Err(RunFault::Cached { block: 0 }));
-    assert_eq!(rt; run.order(3, 3), Err(RunFault::NotCached { block: 3 }));
-    assert_eq!(rt; run.order(4, 0), Err(RunFault::NoSuchBlock { block: 4 }));
-    assert_eq!(rt; run.order(5, 4), Err(RunFault::NoSuchBlock { block: 5 }));
-    assert_eq!(rt; run.order(3, 2), Ok(()));
+    let refused = [
+        (0, 1, RunFault::Cached { block: 0 }),
+        (3, 3, RunFault::NotCached { block: 3 }),
+        (4, 0, RunFault::NoSuchBlock { block: 4 }),
+        (5, 4, RunFault::NoSuchBlock { block: 5 }),
+    ];
+    for (fetch, evict, fault) in refused {
+        assert_eq!(rt; run.order(order(fetch, evict)), Err(fault));
+    }
+    assert_eq!(rt; run.order(order(3, 2)), Ok(()));
     assert_eq!(rt;
-        run.order(2, 1),
+        run.order(order(2, 1)),
         Err(RunFault::Array(ArrayFault::DiskBusy { disk: 0, block: 3 }))
     );
     assert_eq!(rt; run.orders(), 1);
@@ -67,10 +80,13 @@ fn void_and_empty(rt: HostRuntime) -> Result<(), Fail> {
     assert_eq!(rt; drive.look(1), None);
     // void, though there is no request; and without a fetch under way it is finished
     let mut run = Run::new(Setting::new(heap)?, drive);
-    assert_eq!(rt; run.order(0, 0), Err(RunFault::Void));
+    assert_eq!(rt; run.order(order(0, 0)), Err(RunFault::Void));
     assert_eq!(rt; run.unit(), Err(RunFault::Void));
     let mut empty = Run::new(Setting::new(heap)?, Drive::new());
-    assert_eq!(rt; empty.order(0, 0), Err(RunFault::Finished { elapsed: 0 }));
+    assert_eq!(rt;
+        empty.order(order(0, 0)),
+        Err(RunFault::Finished { elapsed: 0 })
+    );
     Ok(())
 }
 

@@ -1,14 +1,11 @@
-use Rattle.std.proofs.Common.{ap, ◌∙◌, arith}
-use Rattle.std.proofs.lemmas.List.{take_all}
+use Rattle.std.proofs.Common.{refl, arith, rules}
+use Rattle.std.proofs.lemmas.Grind.{common_steps}
+use Rattle.std.proofs.lemmas.List.Recursion.{max_bounds, max_least}
 use Rattle.arrays.specs.Filling.{greatest}
-use Rattle.arrays.proofs.Spreads.{greatest_more}
 use Rattle.arrays.proofs.filling.greatest.Goals as goal
-
-pub loop-home-preserved : goal.loop-home-preserved
-loop-home-preserved c =
-    let more = greatest_more c.args.homes.now c.loop-home.home-index (omega (arith, c.told-homes, c.loop-home-test.true)) in
-    omega (arith, c.max-most.ensures, c.loop-home.invariant, more)
 
 pub returns : goal.returns
 returns c =
-    c.loop-home.invariant ∙ ap greatest (take_all c.loop-home.home-index c.args.homes.now (omega (arith, c.told-homes, c.loop-home-test.false)))
+    let bounds = max_bounds greatest (λ h. h) refl (λ _ _. refl) c.args.homes.now in
+    let least = max_least greatest (λ h. h) refl (λ _ _. refl) c.args.homes.now 0 c.unwrap_or.result (search rules) in
+    grind (arith, common_steps, bounds, least)

@@ -1,23 +1,18 @@
-use Rattle.std.proofs.Common.{◌+◌, drop, sym, ap, ◌∙◌, add-one, arith}
-use Rattle.std.proofs.lemmas.List.{at_drop_more, at_drop_all}
-use Rattle.std.proofs.lemmas.Bool.{cond-true, cond-false, lt-ltb, le-ltb}
-use Rattle.arrays.specs.Filling.{try_homes}
+use Rattle.std.proofs.Common.{◌≡◌, ltb, sym, ap, ◌∙◌, zero-add, rules, tests}
+use Rattle.std.specs.List.{position}
+use Rattle.std.proofs.lemmas.Iterator.{YieldsList-from_slice}
+use Rattle.std.proofs.lemmas.Iterator.Search.{position_from_yields_List}
+use Rattle.arrays.proofs.Spreads.{by_place, homes_by_place}
 use Rattle.arrays.proofs.filling.try_homes.Goals as goal
 
-pub returns-then-home-gt-MOST_HOME : goal.returns-then-home-gt-MOST_HOME
-returns-then-home-gt-MOST_HOME c =
-    let i = c.loop-block.block in
-    let here = at_drop_more (try_homes i) c.args.homes.now i 0 (omega arith) in
-    sym (sym c.loop-block.invariant ∙ here ∙ cond-true _ _ _ (lt-ltb _ _ c.if-home-gt-MOST_HOME.true))
-
-pub loop-block-preserved : goal.loop-block-preserved
-loop-block-preserved c =
+pub returns-in-Some : goal.returns-in-Some
+returns-in-Some c =
     let hs = c.args.homes.now in
-    let i = c.loop-block.block in
-    let here = at_drop_more (try_homes i) hs i 0 (omega arith) in
-    ap (λ n. try_homes n (drop (i + 1) hs)) (add-one i) ∙ sym (here ∙ cond-false _ _ _ (le-ltb _ _ c.if-home-gt-MOST_HOME.false)) ∙ c.loop-block.invariant
+    let first : c.position.result ≡ position (ltb 3) hs = position_from_yields_List (ltb 3) _ _ _ c.position.ensures.ran (YieldsList-from_slice hs (cc)) (λ x b q k. search (rules, tests)) in
+    simp zero-add at (ap (by_place 0) (sym c.in-Some.is ∙ first) ∙ sym (homes_by_place 0 hs))
 
-pub returns : goal.returns
-returns c =
-    let i = c.loop-block.block in
-    sym (at_drop_all (try_homes i) c.args.homes.now i (omega arith)) ∙ c.loop-block.invariant
+pub returns-in-None : goal.returns-in-None
+returns-in-None c =
+    let hs = c.args.homes.now in
+    let first : c.position.result ≡ position (ltb 3) hs = position_from_yields_List (ltb 3) _ _ _ c.position.ensures.ran (YieldsList-from_slice hs (cc)) (λ x b q k. search (rules, tests)) in
+    ap (by_place 0) (sym c.in-None.is ∙ first) ∙ sym (homes_by_place 0 hs)

@@ -1,10 +1,13 @@
-use Rattle.std.proofs.Common.{is_some, sym, ap, ◌∙◌, arith}
-use Rattle.runs.proofs.Busy.{busy_at, all_idle}
+use Rattle.std.proofs.Common.{is_some, ◌∙◌, refl, rules, tests}
+use Rattle.std.proofs.lemmas.Iterator.{YieldsList-from_range}
+use Rattle.std.proofs.lemmas.Iterator.Search.{any_from_yields_List}
+use Rattle.arrays.specs.Disks.{holds}
+use Rattle.runs.proofs.Busy.{busy_of_four}
 use Rattle.runs.proofs.turns.is_busy.Goals as goal
 
-pub returns-then-is_some : goal.returns-then-is_some
-returns-then-is_some g c =
-    sym (busy_at (g.A.Array.held c.args.array.now) c.loop-disk.disk (sym (c.if-is_some.ensures ∙ ap is_some c.look.ensures)))
-
 pub returns : goal.returns
-returns g c = sym (all_idle (g.A.Array.held c.args.array.now) (λ k h. c.loop-disk.invariant k (omega (arith, (g.met.A.Array.working c.args.array.now).four))))
+returns g c =
+    let x = c.args.array.now in
+    let os = g.A.Array.held x in
+    any_from_yields_List (λ d. is_some (holds os d)) _ _ c.any.result c.any.ensures.ran (YieldsList-from_range 0 4 4 refl refl) (λ d b q k. search (rules, tests))
+    ∙ busy_of_four os (g.met.A.Array.working x).four

@@ -1,4 +1,4 @@
-use Rattle.std.proofs.Common.{◌≡◌, map, length, take, drop}
+use Rattle.std.proofs.Common.{◌≡◌, ◌++◌, map, take, drop}
 use Rattle.arrays.specs.Disks.{arrivals, step_disk}
 use Rattle.arrays.specs.Tables.{contents}
 use Rattle.arrays.proofs.table.Table.step.Given as goal
@@ -6,7 +6,7 @@ use Rattle.arrays.proofs.table.Table.step.Given as goal
 -- the disks before the place are stepped, and the others are as they were
 abbrev pub invariant-loop-disk : goal.invariant-loop-disk
 invariant-loop-disk l =
-    (take l.disk-index (contents l.disk-items) ≡ map step_disk (take l.disk-index (contents l.initial.disk-items)))
-    × (drop l.disk-index (contents l.disk-items) ≡ drop l.disk-index (contents l.initial.disk-items))
-    × (l.arrived ≡ arrivals (take l.disk-index (contents l.initial.disk-items)))
-    × (length l.disk-items ≡ 4)
+    let os = contents l.initial.disk-items in record {
+      stepped : contents l.disk-items ≡ map step_disk (take l.disk-index os) ++ drop l.disk-index os;
+      delivered : l.arrived ≡ arrivals (take l.disk-index os);
+    }
