@@ -5,42 +5,43 @@ ghost use Rattle.arrays.specs.Disks.{holds, idle};
 ghost use Rattle.arrays.specs.Filling.{try_bank, greatest};
 ghost use Rattle.arrays.specs.Layouts.{all_first};
 ghost use Rattle.arrays.specs.Records.{left_of};
-ghost use Rattle.arrays.specs.Tables.{contents, fetching_each};
+ghost use Rattle.arrays.specs.Fetchings.{fetching_each};
+ghost use Rattle.arrays.specs.Tables.{contents};
 ghost use Rattle.std.proofs.lemmas.List.{length-map};
 ghost use Rattle.arrays.specs.declared.disk.Disk.{Disk};
 
 use crate::array::{Array, Placement};
 use crate::fetch::Fetch;
-use crate::filling::{greatest, try_homes, try_time};
+use crate::filling::{greatest, try_homes};
 use crate::table::Table;
+use crate::time::FetchTime;
 use faults::{ArrayFault, BankFault};
 
 #[derive(Drop)]
 pub struct Bank {
-    time: u8,
+    time: FetchTime,
+    // how many of the four records are disks: a table of four is asked for here, and no Vec
     count: u8,
     homes: [u8; 64],
     table: Table,
-    ghost lasting: { 1 ≤ time },
-    ghost brief: { time ≤ 64 },
     ghost some: { 1 ≤ count },
     ghost few: { count ≤ 4 },
     ghost all: { length homes ≡ 64 },
     ghost housed: { (b : ℕ) → slice_index homes b < count },
-    ghost within: { (d : ℕ) → left_of (holds (contents table.disks) d) ≤ time },
+    ghost within: { (d : ℕ) → left_of (holds (contents table.disks) d) ≤ time.units },
     ghost beyond: { (d : ℕ) → count ≤ d → is_some (holds (contents table.disks) d) ≡ false },
 }
 
 impl Bank {
     // One idle disk, where every block lives, with fetch time 1.
     pub fn new() -> Bank
-        ensures time { result.time ≡ 1 }
+        ensures time { result.time.units ≡ 1 }
         ensures count { result.count ≡ 1 }
         ensures homes { result.homes ≡ all_first }
         ensures idle { contents result.table.disks ≡ idle }
     {
         Bank {
-            time: 1,
+            time: FetchTime { units: 1 },
             count: 1,
             homes: [0; 64],
             table: Table::new(),
@@ -51,13 +52,13 @@ impl Bank {
     // disks as the homes need.
     pub fn fill(&mut self, time: u8, homes: &[u8; 64]) -> Result<(), BankFault>
         ensures answers { result ≡ try_bank time homes.now }
-        ensures time { OnOk result (self.new.time ≡ time) }
+        ensures time { OnOk result (self.new.time.units ≡ time) }
         ensures homes { OnOk result (self.new.homes ≡ homes.now) }
         ensures count { OnOk result (self.new.count ≡ greatest homes.now + 1) }
         ensures idle { OnOk result (contents self.new.table.disks ≡ idle) }
         ensures refused { OnErr result (self.new ≡ self.old) }
     {
-        try_time(time)?;
+        let time = FetchTime::new(time)?;
         try_homes(homes)?;
         let count = greatest(homes) + 1;
         *self = Bank {
@@ -85,21 +86,21 @@ impl Placement for Bank {
 }
 
 impl Array for Bank {
-    ghost time = { λ x. x.time };
+    ghost time = { λ x. x.time.units };
 
     ghost held = { λ x. contents x.table.disks };
 
     ghost working = { λ x.
         record {
-          lasting = x.lasting;
-          brief = x.brief;
+          lasting = x.time.lasting;
+          brief = x.time.brief;
           four = length-map x.table.disks (λ (d : Disk). d.fetch) ∙ x.table.four;
-          fetching = fetching_each x.time x.table.disks x.within;
+          fetching = fetching_each x.time.units x.table.disks x.within;
           beyond = Prim.search rules;
         } };
 
     fn fetch_time(&self) -> u8 {
-        self.time
+        self.time.units
     }
 
     fn begin(&mut self, block: u8) -> Result<(), ArrayFault> {

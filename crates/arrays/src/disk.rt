@@ -6,6 +6,7 @@ ghost use Rattle.arrays.specs.Disks.{disk_outcome, step_disk, delivered};
 ghost use Rattle.arrays.specs.Records.{block_of, left_of};
 
 use crate::fetch::Fetch;
+use crate::time::FetchTime;
 use faults::ArrayFault;
 
 const MOST_BLOCK: u8 = 63;
@@ -21,10 +22,9 @@ pub(crate) struct Disk {
 impl Disk {
     // Begins a fetch of a block on this disk, which has this number in its array; a block above 63 is refused, and a
     // busy disk, and then nothing changes.
-    pub(crate) fn begin(&mut self, disk: u8, block: u8, time: u8) -> Result<(), ArrayFault>
-        requires { 1 ≤ time }
+    pub(crate) fn begin(&mut self, disk: u8, block: u8, time: FetchTime) -> Result<(), ArrayFault>
         ensures answers { answered array_fault result ≡ disk_outcome disk block self.old.fetch }
-        ensures begun { OnOk result (self.new.fetch ≡ Some (record { block = block; left = time })) }
+        ensures begun { OnOk result (self.new.fetch ≡ Some (record { block = block; left = time.units })) }
         ensures refused { OnErr result (self.new.fetch ≡ self.old.fetch) }
     {
         if block > MOST_BLOCK {
@@ -33,7 +33,10 @@ impl Disk {
         if let Some(Fetch { block, .. }) = self.fetch {
             return Err(ArrayFault::DiskBusy { disk, block });
         }
-        self.fetch = Some(Fetch { block, left: time });
+        self.fetch = Some(Fetch {
+            block,
+            left: time.units,
+        });
         Ok(())
     }
 

@@ -1,4 +1,4 @@
-// A drive: an array of one disk.
+// A drive: an array of one disk. Not a bank with one disk, which would be no plainer: a drive has no homes to keep or to refuse.
 ghost use Rattle.std.specs.Prelude.{◌≡◌, ◌<◌, ◌≤◌, None, OnOk, OnErr};
 ghost use Rattle.faults.specs.Faults.{fill_fault};
 ghost use Rattle.faults.specs.Outcomes.{answered};
@@ -11,28 +11,26 @@ ghost use Rattle.std.proofs.Common.{rules};
 use crate::array::{Array, Placement};
 use crate::disk::Disk;
 use crate::fetch::Fetch;
-use crate::filling::try_time;
+use crate::time::FetchTime;
 use faults::{ArrayFault, FillFault};
 
 const ONLY_DISK: u8 = 0;
 
 #[derive(Drop)]
 pub struct Drive {
-    time: u8,
+    time: FetchTime,
     disk: Disk,
-    ghost lasting: { 1 ≤ time },
-    ghost brief: { time ≤ 64 },
-    ghost within: { left_of disk.fetch ≤ time },
+    ghost within: { left_of disk.fetch ≤ time.units },
 }
 
 impl Drive {
     // An idle drive with fetch time 1.
     pub fn new() -> Drive
-        ensures time { result.time ≡ 1 }
+        ensures time { result.time.units ≡ 1 }
         ensures idle { result.disk.fetch ≡ None }
     {
         Drive {
-            time: 1,
+            time: FetchTime { units: 1 },
             disk: Disk { fetch: None },
         }
     }
@@ -40,11 +38,11 @@ impl Drive {
     // Sets the fetch time and leaves the disk idle, or refuses and changes nothing.
     pub fn fill(&mut self, time: u8) -> Result<(), FillFault>
         ensures answers { answered fill_fault result ≡ try_time time }
-        ensures time { OnOk result (self.new.time ≡ time) }
+        ensures time { OnOk result (self.new.time.units ≡ time) }
         ensures idle { OnOk result (self.new.disk.fetch ≡ None) }
         ensures refused { OnErr result (self.new ≡ self.old) }
     {
-        try_time(time)?;
+        let time = FetchTime::new(time)?;
         *self = Drive {
             time,
             disk: Disk { fetch: None },
@@ -69,14 +67,14 @@ impl Placement for Drive {
 }
 
 impl Array for Drive {
-    ghost time = { λ x. x.time };
+    ghost time = { λ x. x.time.units };
 
     ghost held = { λ x. alone x.disk.fetch };
 
     ghost working = { Prim.search rules };
 
     fn fetch_time(&self) -> u8 {
-        self.time
+        self.time.units
     }
 
     #[tactic(auto, using(crate::specs::Homes::first_home))]

@@ -1,26 +1,10 @@
-// What an array may be filled with.
+// The homes that a bank may be filled with.
 ghost use Rattle.std.specs.Prelude.{◌≡◌};
-ghost use Rattle.faults.specs.Faults.{fill_fault};
-ghost use Rattle.faults.specs.Outcomes.{answered};
-ghost use Rattle.arrays.specs.Disks.{try_time};
 ghost use Rattle.arrays.specs.Filling.{try_homes, greatest};
 
-use faults::{BankFault, FillFault};
-
-const MOST_TIME: u8 = 64;
+use faults::BankFault;
 
 const MOST_HOME: u8 = 3;
-
-// Whether a fetch may take this time.
-pub(crate) fn try_time(time: u8) -> Result<(), FillFault>
-    ensures { answered fill_fault result ≡ try_time time }
-{
-    if (1..=MOST_TIME).contains(&time) {
-        Ok(())
-    } else {
-        Err(FillFault::Time)
-    }
-}
 
 // Whether every home is a disk that there may be.
 pub(crate) fn try_homes(homes: &[u8; 64]) -> Result<(), BankFault>

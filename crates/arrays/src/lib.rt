@@ -8,6 +8,7 @@ mod drive;
 mod fetch;
 mod filling;
 mod table;
+mod time;
 
 pub use array::{Array, Placement};
 pub use bank::Bank;

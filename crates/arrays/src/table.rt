@@ -7,6 +7,7 @@ ghost use Rattle.arrays.specs.Tables.{contents};
 
 use crate::disk::Disk;
 use crate::fetch::Fetch;
+use crate::time::FetchTime;
 use faults::ArrayFault;
 
 #[derive(Clone, Copy)]
@@ -25,15 +26,15 @@ impl Table {
         }
     }
 
-    // Begins a fetch of a block on one of the disks, in its place.
-    pub(crate) fn begin(&mut self, disk: u8, block: u8, time: u8) -> Result<(), ArrayFault>
-        requires there { disk < 4 }
-        requires lasting { 1 ≤ time }
+    // Begins a fetch of a block on one of the disks, in its place. (A disk is a number, as in the traits; here it is a place.)
+    pub(crate) fn begin(&mut self, disk: u8, block: u8, time: FetchTime) -> Result<(), ArrayFault>
+        requires { disk < 4 }
         ensures answers { answered array_fault result ≡ disk_outcome disk block (holds (contents self.old.disks) disk) }
-        ensures begun { OnOk result (contents self.new.disks ≡ slice_set (contents self.old.disks) disk (Some (record { block = block; left = time }))) }
+        ensures begun { OnOk result (contents self.new.disks ≡ slice_set (contents self.old.disks) disk (Some (record { block = block; left = time.units }))) }
         ensures refused { OnErr result (contents self.new.disks ≡ contents self.old.disks) }
     {
-        // the check does not yet build `self.disks[..].begin(..)`, a record lent from an array in a struct with ghost fields
+        // the home disk's record is changed in its place, as is asked for here; `self.disks[..].begin(..)` in one step, a record lent
+        // from an array in a struct with ghost fields, gets no proof yet
         let disks = &mut self.disks;
         disks[disk as usize].begin(disk, block, time)
     }

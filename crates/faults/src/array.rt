@@ -18,7 +18,7 @@ pub enum FillFault {
     Time,
 }
 
-// Why a bank is not filled.
+// Why a bank is not filled. No Option of a block: the other case is a reason too.
 #[derive(Clone, Copy, PartialEq, Eq, Debug)]
 pub enum BankFault {
     // the fetch time is not 1 to 64
@@ -27,6 +27,7 @@ pub enum BankFault {
     Home { block: u8 },
 }
 
+// By hand: a clause names the case that `?` makes, and of a derived one nothing is known.
 impl From<FillFault> for BankFault {
     ghost from_gives = { λ _ r. r ≡ of_time };
 

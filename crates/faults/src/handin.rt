@@ -6,16 +6,16 @@ use crate::array::FillFault;
 use crate::replay::ReplayFault;
 use crate::setting::SettingFault;
 
-// The parts of a hand-in.
+// The parts of a hand-in, with their numbers.
 #[derive(Clone, Copy, PartialEq, Eq, Debug)]
 pub enum Part {
-    Setting,
-    Schedule,
-    Page,
+    Setting = 1,
+    Schedule = 2,
+    Page = 3,
 }
 
-// What the replay said, and the place in the hand-in where the schedule starts. Not one generic type with `Refused`: the
-// one has where the fault is, the other where to count from.
+// What the replay said, and the place in the hand-in where the schedule starts. Not one generic type with `Refused`, which
+// would be no plainer: it would call where a fault is and where to count from by one name.
 #[derive(Clone, Copy, PartialEq, Eq, Debug)]
 pub struct ScheduleFault {
     pub start: usize,
@@ -41,6 +41,7 @@ pub enum HandInFault {
     LeftOver { place: usize },
 }
 
+// By hand, as all of these: a clause names the case that `?` makes, and of a derived one nothing is known.
 impl From<SettingFault> for HandInFault {
     ghost from_gives = { λ e r. r ≡ in_setting e };
 

@@ -21,11 +21,7 @@ impl Numbered for Figure {
     ghost numbered = { figure };
 
     fn number(&self) -> u8 {
-        match self {
-            Figure::Blocks => 1,
-            Figure::Size => 2,
-            Figure::Requests => 3,
-        }
+        *self as u8
     }
 }
 
@@ -119,11 +115,7 @@ impl Numbered for Part {
     ghost numbered = { part_number };
 
     fn number(&self) -> u8 {
-        match self {
-            Part::Setting => 1,
-            Part::Schedule => 2,
-            Part::Page => 3,
-        }
+        *self as u8
     }
 }
 

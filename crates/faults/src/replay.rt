@@ -4,7 +4,7 @@ ghost use Rattle.faults.specs.declared.replay.ReplayFault.TheVariants.{Run as of
 
 use crate::run::RunFault;
 
-// What the run said to an order or a unit, and the place of the unit's map byte.
+// What the run said to an order or a unit, and the place of the unit's map byte. (`ScheduleFault` says why they are two.)
 #[derive(Clone, Copy, PartialEq, Eq, Debug)]
 pub struct Refused {
     pub place: usize,
@@ -24,6 +24,7 @@ pub enum ReplayFault {
     Run(Refused),
 }
 
+// By hand: a clause names the case that `?` makes, and of a derived one nothing is known.
 impl From<Refused> for ReplayFault {
     ghost from_gives = { λ e r. r ≡ of_run e };
 

@@ -22,6 +22,7 @@ pub enum RunFault {
     Array(ArrayFault),
 }
 
+// By hand: a clause names the case that `?` makes, and of a derived one nothing is known.
 impl From<ArrayFault> for RunFault {
     ghost from_gives = { λ e r. r ≡ of_array e };
 

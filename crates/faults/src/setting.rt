@@ -1,14 +1,14 @@
 // Why a setting is not filled.
 
-// A figure of a setting.
+// A figure of a setting, with its number.
 #[derive(Clone, Copy, PartialEq, Eq, Debug)]
 pub enum Figure {
     // the number of blocks, 1 to 64
-    Blocks,
+    Blocks = 1,
     // the cache's size, 1 to the number of blocks
-    Size,
+    Size = 2,
     // the number of requests, at most 200
-    Requests,
+    Requests = 3,
 }
 
 #[derive(Clone, Copy, PartialEq, Eq, Debug)]

@@ -35,7 +35,7 @@ module _ (bytes : List ℕ) (setting : Setting) (drive : Drive) (s : Schedule) (
 
   -- what is made of them is what is made of the bytes
   pub ready_way : try_parts bytes ≡ passes
-      → after_replay s.start (ending_by (Ok tt) s) (replayed (instance (content setting) one_disk drive.time) (beginning (instance (content setting) one_disk drive.time) (alone drive.disk.fetch)) s.bytes.now)
+      → after_replay s.start (ending_by (Ok tt) s) (replayed (instance (content setting) one_disk drive.time.units) (beginning (instance (content setting) one_disk drive.time.units) (alone drive.disk.fetch)) s.bytes.now)
       ≡ marked bytes
   ready_way passed =
       (λ k. after_replay (ready.cut.start k) (rest_way k) (replayed (instance (ready.filled k) one_disk (ready.time k)) (beginning (instance (ready.filled k) one_disk (ready.time k)) (alone (ready.rests k))) (ready.cut.inside k)))

@@ -32,7 +32,7 @@ pub record Cut (bytes : List ℕ) (s : Schedule) : Type 0 where
 pub record Prepared (bytes : List ℕ) (setting : Setting) (drive : Drive) (s : Schedule) : Type 0 where
   pub cut : Cut bytes s
   pub filled : content setting ≡ setting_in bytes
-  pub time : drive.time ≡ time_in bytes
+  pub time : drive.time.units ≡ time_in bytes
   pub rests : drive.disk.fetch ≡ None
 
 -- how the marking ends, by how the replay ended and where the schedule stands

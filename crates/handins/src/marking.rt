@@ -33,7 +33,7 @@ struct Ready<'a, A> {
 fn fill(part: &PartOne, mut setting: Setting) -> Result<(Setting, Drive), HandInFault>
     ensures tried { tried result ≡ and_then (filled (try_figures part.now.contents.blocks part.now.contents.size (length part.now.contents.requests.now))) (and_then (filled (try_time part.now.time)) (filled (try_content (wanted part.now.contents)))) }
     ensures setting { IfOk result (λ r. content r.0 ≡ wanted part.now.contents) }
-    ensures time { IfOk result (λ r. r.1.time ≡ part.now.time) }
+    ensures time { IfOk result (λ r. r.1.time.units ≡ part.now.time) }
     ensures idle { IfOk result (λ r. r.1.disk.fetch ≡ None) }
 {
     let new = &part.contents;
@@ -89,7 +89,8 @@ fn mark_schedule<A: Array + Drop>(heap: Global, ready: Ready<A>) -> Result<Repor
     })
 }
 
-// Marks a hand-in: tries its parts, replays its schedule, and reports. A refusal is a report too.
+// Marks a hand-in: tries its parts, replays its schedule, and reports. A refusal is a report too. (The heap, where memory comes
+// from, is asked first wherever memory is; it and the bytes are no one thing.)
 #[tactic(auto, using(crate::proofs::Truth::truly, crate::proofs::Endings::ready_way))]
 pub fn mark_hand_in(heap: Global, bytes: &[u8]) -> Result<Report, AllocError>
     ensures report { IfOk result (λ x. reported x ≡ marked bytes.now) }

@@ -22,6 +22,7 @@ pub(crate) fn try_front(bytes: &[u8]) -> Result<(), HandInFault>
         return Err(HandInFault::TooLong);
     }
     match bytes.first() {
+        // tried here, before there is a reader, since the map byte comes next
         None => Err(HandInFault::Short {
             part: Part::Setting,
             place: 0,
@@ -31,7 +32,8 @@ pub(crate) fn try_front(bytes: &[u8]) -> Result<(), HandInFault>
     }
 }
 
-// A hand-in of which the bytes before `place` are read.
+// A hand-in of which the bytes before `place` are read. The bytes stay whole, since faults are told by their place in them; that
+// they stay is said method by method, in a line. No one type with what a replay reads by, which refuses in another way.
 #[derive(Clone, Copy)]
 pub(crate) struct Reader<'a> {
     pub(crate) bytes: &'a [u8],
@@ -65,7 +67,7 @@ impl<'a> Reader<'a> {
         ensures place { OnOk result (self.new.place ≡ requests_end self.old.bytes.now) }
         ensures bytes { self.new.bytes.now ≡ self.old.bytes.now }
     {
-        // by place, as the format lists the fields
+        // by place, as the format lists the fields: a pattern would want an `else` that is never taken
         let header = self.take(HEADER, Part::Setting)?;
         let requests = self.take(usize::from(header[4]), Part::Setting)?;
         Ok(PartOne {

@@ -2,7 +2,7 @@
 use faults::HandInFault;
 use schedules::UnitRecord;
 
-// The counts of a run; all are 0 where no run was made, and no Option: the definition of a report gives these counts.
+// The counts of a run; all are 0 where no run was made, which an Option would say no plainer: a refusal prints no counts.
 #[derive(Clone, Copy, PartialEq, Eq, Debug, Default)]
 pub struct Counts {
     pub cursor: u8,

@@ -1,4 +1,5 @@
 // Sets of blocks and of disks as 64-bit maps: bit b, bit 0 lowest, stands for block or disk b.
+// A map is a number, as in the format, in the definitions and in a setting: a type of its own would be taken apart at each of these.
 // The number is tested before each shift: `checked_shl` and `checked_shr` answer an `Option`, which reads no plainer here.
 #![tactic(auto, using(crate::proofs::Maps::map_steps))]
 

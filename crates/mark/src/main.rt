@@ -7,14 +7,10 @@ use std::io::Read;
 // One byte more than a hand-in may have, so that a longer one is seen to be too long.
 const MOST_READ: u64 = 65_001;
 
-fn run(rt: &HostRuntime) -> anyhow::Result<()> {
+fn main(rt: HostRuntime) -> anyhow::Result<()> {
     let heap = rt.alloc();
     let mut bytes = Vec::new(heap);
     rt.stdin().take(MOST_READ).read_to_end(&mut bytes)?;
     rt.print(marked_listing(heap, bytes.as_slice())?)?;
     Ok(())
-}
-
-fn main(rt: HostRuntime) -> anyhow::Result<()> {
-    run(&rt)
 }

@@ -6,7 +6,10 @@ use tallies::{Call, Order};
 
 // The schedule, and what has been given to the run so far: the calls, refused ones included, and the units that went by.
 // The unit that is being read has its map byte at `start`, and has these orders so far; the next byte to read is at
-// `place`, which is `start` where no unit is being read.
+// `place`, which is `start` where no unit is being read. Three things are no plainer in another form:
+// - an Option of a unit for `start` and `orders`: a refused unit is told at `start`, when it is no longer being read;
+// - the run's `&mut` in here too: each clause would say that it is still the same one;
+// - a reader shared with hand-ins for `bytes` and `place`: it would refuse in another way in each.
 #[derive(Drop)]
 pub(crate) struct Replay<'a> {
     pub(crate) bytes: &'a [u8],

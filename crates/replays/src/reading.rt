@@ -1,4 +1,5 @@
-// One unit of a schedule, read and given to a run.
+// One unit of a schedule, read and given to a run. That the run's instance stays, and the bytes, and that a unit is being read,
+// is said function by function, in a line: a type that carried it would be named, or lent, in each of them.
 ghost use Rattle.std.specs.Prelude.{◌≡◌, ℕ, ◌+◌, ◌<◌, ◌≤◌, false, length, OnOk};
 ghost use Rattle.tallies.specs.Tally.{answer};
 ghost use Rattle.tallies.specs.declared.call.Call.TheVariants.{Unit as unit_call};
@@ -13,7 +14,8 @@ use runs::Run;
 use schedules::UnitRecord;
 use tallies::{Call, Order};
 
-// Whether a disk's bit is not allowed, where it is to fetch this block.
+// Whether a disk's bit is not allowed, where it is to fetch this block. (A disk is a number, as in the traits of arrays; that it
+// is below four is said where it is used as a place.)
 fn is_barred<A: Array>(run: &Run<A>, disk: u8, fetch: u8) -> bool
     ensures answers { result ≡ barred run.now.instance disk fetch }
     ensures low { result ≡ false → disk < 4 }
@@ -27,6 +29,7 @@ impl Replay<'_> {
         ensures read { Orders run.now.instance self.now.bytes.now self.now.start disk (read self.now) result }
         ensures low { OnOk result (disk < 4) }
     {
+        // the bytes stay whole, since faults are told by their place in them
         let [fetch, evict, ..] = &self.bytes[self.place..] else {
             return Err(ReplayFault::Short {
                 place: self.bytes.len(),
@@ -41,7 +44,7 @@ impl Replay<'_> {
         })
     }
 
-    // Reads the order of a disk and gives it, which counts whether it is refused or not.
+    // Reads the order of a disk and gives it. It is noted as a call whether the run refuses it or not.
     fn give_order<A: Array>(&mut self, run: &mut Run<A>, disk: u8) -> Result<(), ReplayFault>
         requires { self.old.start < self.old.place }
         ensures follows { give_order run.old.instance self.old.bytes.now self.old.start disk (read self.old) (done run.old self.old) ≡ ends (read self.new) result (done run.new self.new) }
@@ -53,6 +56,7 @@ impl Replay<'_> {
         self.place += 2;
         self.calls.push_reserved(Call::Order(order));
         run.order(order).map_err(|fault| Refused { place, fault })?;
+        // each order in the place of its disk
         self.orders[disk as usize] = Some(order);
         Ok(())
     }
@@ -65,6 +69,7 @@ impl Replay<'_> {
         ensures instance { run.new.instance ≡ run.old.instance }
         ensures unit { SameUnit self.old self.new }
     {
+        // tried as a `filter` with `try_for_each`: what its closure leaves of the run is not known then
         for disk in 0..8 {
             if has(u64::from(map), disk) {
                 self.give_order(run, disk)?;
@@ -73,7 +78,8 @@ impl Replay<'_> {
         Ok(())
     }
 
-    // Lets the unit go by, which counts whether it is refused or not, and keeps a record of it. No unit is being read then.
+    // Lets the unit go by, and keeps a record of it. It is noted as a call whether the run refuses it or not, and no unit is
+    // being read any more.
     fn give_unit<A: Array>(&mut self, run: &mut Run<A>) -> Result<(), Refused>
         requires { self.old.start < self.old.place }
         ensures follows { closed self.old.start (read self.old) (answer run.old.instance run.old.state unit_call) (called run.old.instance unit_call (done run.old self.old)) ≡ ends self.new.place (by_run result) (done run.new self.new) }

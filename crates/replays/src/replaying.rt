@@ -1,4 +1,4 @@
-// A whole schedule, given to a run.
+// A whole schedule, given to a run. That the run's instance stays is said here too, as the run says it.
 ghost use Rattle.std.specs.Prelude.{◌≡◌, suc, length, IfOk, OnErr};
 ghost use Rattle.schedules.specs.Replay.{replay_units, replayed, way_of};
 ghost use Rattle.schedules.specs.Spelling.{Faithful};
@@ -39,7 +39,8 @@ impl Replay<'_> {
 }
 
 // Gives a schedule's orders and units to a run, until it is finished or the first fault. What was done before a fault
-// stays. Where memory is short, nothing is done.
+// stays. Where memory is short, nothing is done. (The heap, where memory comes from, is asked first; it and the bytes are no one
+// thing.)
 #[tactic(auto, using(schedules::proofs::Spellings::faithful))]
 pub fn replay<A: Array>(
     heap: Global,
@@ -51,7 +52,7 @@ pub fn replay<A: Array>(
     ensures instance { run.new.instance ≡ run.old.instance }
     ensures untouched { OnErr result (run.new.state ≡ run.old.state) }
 {
-    // so that the four orders of a record are enough
+    // there are four places for orders in a unit's record; this is what the clause `faithful` needs of the array
     prove!(run.array().disks() <= 4);
     let mut replay = Replay {
         bytes,

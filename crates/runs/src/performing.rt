@@ -1,4 +1,4 @@
-// Whole lists of calls.
+// Whole lists of calls. That the instance stays is said here too, call by call, as the array says it.
 ghost use Rattle.std.specs.Prelude.{◌≡◌, map, IfOk, MatchResult};
 ghost use Rattle.instances.specs.Instances.{instance_of};
 ghost use Rattle.tallies.specs.Laws.{Lawful};
@@ -20,6 +20,7 @@ impl<A: Array> Run<A> {
         ensures state { self.new.state ≡ next self.old.instance self.old.state call }
         ensures instance { self.new.instance ≡ self.old.instance }
     {
+        // a call is data, read from bytes and kept in lists, so this is a `match` and no closure
         match call {
             Call::Order(order) => {
                 self.order(order)?;
@@ -41,9 +42,10 @@ impl<A: Array> Run<A> {
         ensures instance { self.new.instance ≡ self.old.instance }
         ensures spent { Spent self.new.instance self.new.state }
     {
-        // time adds up, before the calls and after them: this is read off the run's counts, which contracts do not see
+        // for the clause `spent`, before the calls and after them: the run is looked into, and time adds up
         prove!(u32::from(self.elapsed) == u32::from(self.cursor) + u32::from(self.stall));
         let mut replies = Vec::with_capacity(heap, calls.len())?;
+        // tried as a `map` with `collect`: what its closure leaves of the run is not known then
         for call in calls {
             replies.push_reserved(self.call(*call));
         }

@@ -1,4 +1,5 @@
-// Runs made, and the calls that change them: order and unit.
+// Runs made, and the calls that change them: order and unit. That the instance stays is said call by call, as the array says
+// call by call that its layout and its fetch time do.
 ghost use Rattle.std.specs.Prelude.{◌≡◌, ◌<◌, IfOk};
 ghost use Rattle.instances.specs.Instances.{asked, last, instance_of};
 ghost use Rattle.tallies.specs.Tally.{admit, any_busy, beginning, finished, ready, told, answer, next};

@@ -10,7 +10,7 @@ impl fmt::Display for UnitRecord {
 
     fn fmt<W: fmt::Write>(&self, f: &mut fmt::Formatter<W>) -> fmt::Result {
         write!(f, "{} {}", self.number, self.progress)?;
-        // not over `.iter().flatten()`: what that gives would need a proof of its own, and this loop has its invariant alone
+        // tried over `.iter().flatten()`: what is written then was not proved
         for order in &self.orders {
             if let Some(order) = order {
                 write!(f, " {order}")?;

@@ -7,6 +7,7 @@ pub struct Order {
     pub evict: u8,
 }
 
+// One call. No Option of an order: the other case is a unit, and not nothing.
 #[derive(Clone, Copy, PartialEq, Eq, Debug)]
 pub enum Call {
     // begin a fetch of one block, and evict another in the same moment

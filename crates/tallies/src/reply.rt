@@ -7,7 +7,7 @@ pub enum Progress {
     Stalled { block: u8 },
 }
 
-// The answer to a call that is not refused: the order was accepted, or the unit went by.
+// The answer to a call that is not refused: the order was accepted, or the unit went by. No Option: both are answers.
 #[derive(Clone, Copy, PartialEq, Eq, Debug)]
 pub enum Reply {
     Accepted,

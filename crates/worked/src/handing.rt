@@ -12,7 +12,7 @@ pub fn worked_bytes() -> [u8; 31] {
     ]
 }
 
-// What is told of a hand-in that is refused: a number, a part and a place.
+// What is told of a hand-in that is refused: a number, a part and a place. (A schedule by itself has no part.)
 #[derive(Clone, Copy, PartialEq, Eq, Debug)]
 struct Told {
     number: u8,

@@ -5,7 +5,7 @@ use replays::replay;
 use std::alloc::Global;
 use std::test::Fail;
 
-// What is told of a schedule that stops: a number, at a place, after so many units.
+// What is told of a schedule that stops: a number, at a place, after so many units. (A hand-in is told by its part.)
 #[derive(Clone, Copy, PartialEq, Eq, Debug)]
 struct Told {
     number: u8,

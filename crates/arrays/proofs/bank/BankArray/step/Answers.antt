@@ -8,7 +8,7 @@ pub invariant_of-self-clause-within : goal.invariant_of-self-clause-within
 invariant_of-self-clause-within c =
     let x = c.args.self.now in
     let os = contents x.table.disks in
-    λ d. rw (c.step.ensures.disks, stepped_at os d) (step_within (holds os d) x.time x.lasting (x.within d))
+    λ d. rw (c.step.ensures.disks, stepped_at os d) (step_within (holds os d) x.time.units x.time.lasting (x.within d))
 
 pub invariant_of-self-clause-beyond : goal.invariant_of-self-clause-beyond
 invariant_of-self-clause-beyond c =
