@@ -1,5 +1,5 @@
 // A drive: an array of one disk. Not a bank with one disk, which would be no plainer: a drive has no homes to keep or to refuse.
-ghost use Rattle.std.specs.Prelude.{◌≡◌, ◌<◌, ◌≤◌, None, OnOk, OnErr};
+ghost use Rattle.std.specs.Prelude.{◌≡◌, ◌≤◌, None, OnOk, OnErr};
 ghost use Rattle.faults.specs.Faults.{fill_fault};
 ghost use Rattle.faults.specs.Outcomes.{answered};
 ghost use Rattle.arrays.specs.Disks.{try_time, alone};

@@ -1,5 +1,5 @@
 // The table of four disks that a bank keeps.
-ghost use Rattle.std.specs.Prelude.{◌≡◌, ◌<◌, ◌≤◌, length, slice_set, Some, OnOk, OnErr};
+ghost use Rattle.std.specs.Prelude.{◌≡◌, ◌<◌, length, slice_set, Some, OnOk, OnErr};
 ghost use Rattle.faults.specs.Faults.{array_fault};
 ghost use Rattle.faults.specs.Outcomes.{answered};
 ghost use Rattle.arrays.specs.Disks.{disk_outcome, holds, idle, step_disks, arrivals};

@@ -1,7 +1,7 @@
 // The parts of a hand-in, read and cut out.
 ghost use Rattle.std.specs.Prelude.{◌≡◌, ◌+◌, ◌≤◌, length, take, drop, IfOk, OnOk};
 ghost use Rattle.handins.specs.Tests.{and_then, tried};
-ghost use Rattle.handins.specs.Fields.{requests_end, schedule_end, try_size, try_map_byte, try_whole, try_schedule};
+ghost use Rattle.handins.specs.Fields.{requests_end, try_size, try_map_byte, try_whole, try_schedule};
 ghost use Rattle.handins.specs.Reading.{Fields, Cut, reaches};
 
 use crate::cut::{PartOne, Schedule};

@@ -1,6 +1,6 @@
 // One unit of a schedule, read and given to a run. That the run's instance stays, and the bytes, and that a unit is being read,
 // is said function by function, in a line: a type that carried it would be named, or lent, in each of them.
-ghost use Rattle.std.specs.Prelude.{◌≡◌, ℕ, ◌+◌, ◌<◌, ◌≤◌, false, length, OnOk};
+ghost use Rattle.std.specs.Prelude.{◌≡◌, ◌<◌, false, OnOk};
 ghost use Rattle.tallies.specs.Tally.{answer};
 ghost use Rattle.tallies.specs.declared.call.Call.TheVariants.{Unit as unit_call};
 ghost use Rattle.schedules.specs.Replay.{ends, barred, called, closed, give_order, give_orders, replay_unit};

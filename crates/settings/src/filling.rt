@@ -1,5 +1,5 @@
 // A setting made, and filled in place.
-ghost use Rattle.std.specs.Prelude.{◌≡◌, ◌<◌, ◌≤◌, [], length, IfOk, OnOk, vec_capacity};
+ghost use Rattle.std.specs.Prelude.{◌≡◌, ◌≤◌, [], length, IfOk, OnOk, vec_capacity};
 ghost use Rattle.faults.specs.Faults.{setting_fault};
 ghost use Rattle.faults.specs.Outcomes.{answered};
 ghost use Rattle.settings.specs.Contents.{Within, content, wanted};
