@@ -13,5 +13,5 @@ mod time;
 pub use array::{Array, Placement};
 pub use bank::Bank;
 pub use drive::Drive;
-pub use faults::{ArrayFault, BankFault, FillFault};
+pub use faults::{ArrayFault, BankFault, FillFault, Numbered};
 pub use fetch::Fetch;

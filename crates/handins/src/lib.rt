@@ -8,6 +8,6 @@ mod parts;
 mod printing;
 mod report;
 
-pub use faults::{HandInFault, Part, ScheduleFault};
+pub use faults::{HandInFault, Numbered, Part, ScheduleFault};
 pub use marking::mark_hand_in;
 pub use report::{Counts, Report};

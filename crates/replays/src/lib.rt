@@ -5,7 +5,7 @@ mod log;
 mod reading;
 mod replaying;
 
-pub use faults::{Refused, ReplayFault};
+pub use faults::{Numbered, Refused, ReplayFault};
 pub use replaying::{Replayed, replay};
 pub use schedules::UnitRecord;
 pub use tallies::Order;

@@ -1,11 +1,12 @@
 // A whole schedule, given to a run. That the run's instance stays is said here too, as the run says it.
 ghost use Rattle.std.specs.Prelude.{◌≡◌, suc, length, IfOk, OnErr};
+ghost use Rattle.runs.specs.Standing.{Joined};
 ghost use Rattle.schedules.specs.Replay.{replay_units, replayed, way_of};
 ghost use Rattle.schedules.specs.Spelling.{Faithful};
 ghost use Rattle.replays.specs.Turns.{done};
 
 use crate::log::Replay;
-use arrays::{Array, Placement};
+use arrays::Array;
 use faults::ReplayFault;
 use runs::Run;
 use schedules::UnitRecord;
@@ -50,10 +51,12 @@ pub fn replay<A: Array>(
     ensures replayed { IfOk result (λ x. replayed run.old.instance run.old.state bytes.now ≡ way_of x.ending (record { state = run.new.state; calls = x.calls.items; units = x.units.items })) }
     ensures faithful { Faithful run.old.instance run.old.state bytes.now (replayed run.old.instance run.old.state bytes.now) }
     ensures instance { run.new.instance ≡ run.old.instance }
+    ensures was_joined { Joined A.Placement A.Array.own run.old }
+    ensures joined { Joined A.Placement A.Array.own run.new }
     ensures untouched { OnErr result (run.new.state ≡ run.old.state) }
 {
-    // there are four places for orders in a unit's record; this is what the clause `faithful` needs of the array
-    prove!(run.array().disks() <= 4);
+    // the run's array has at most four disks, as every array has: there are four places for orders in a unit's record
+    let _ = run.array();
     let mut replay = Replay {
         bytes,
         start: 0,
@@ -63,6 +66,7 @@ pub fn replay<A: Array>(
         units: Vec::with_capacity(heap, bytes.len())?,
     };
     let ending = replay.replay_units(run);
+    let _ = run.array();
     let Replay { calls, units, .. } = replay;
     Ok(Replayed {
         calls,

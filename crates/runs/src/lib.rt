@@ -6,7 +6,8 @@ mod reading;
 mod run;
 mod turns;
 
-pub use faults::RunFault;
+pub use faults::{Numbered, RunFault};
 pub use performing::{Performance, run_calls};
+pub use reading::run_is_counted;
 pub use run::Run;
-pub use tallies::{Progress, Reply};
+pub use tallies::{Order, Progress, Reply};

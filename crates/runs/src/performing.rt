@@ -4,7 +4,7 @@ ghost use Rattle.instances.specs.Instances.{instance_of};
 ghost use Rattle.tallies.specs.Laws.{Lawful};
 ghost use Rattle.tallies.specs.Tally.{beginning, answer, next, after, answers, tally};
 ghost use Rattle.tallies.specs.Replies.{reply_answer};
-ghost use Rattle.runs.specs.Standing.{Spent};
+ghost use Rattle.runs.specs.Standing.{Joined, Spent};
 
 use crate::run::Run;
 use arrays::Array;
@@ -19,6 +19,8 @@ impl<A: Array> Run<A> {
         ensures answers { reply_answer result ≡ answer self.old.instance self.old.state call }
         ensures state { self.new.state ≡ next self.old.instance self.old.state call }
         ensures instance { self.new.instance ≡ self.old.instance }
+        ensures was_joined { Joined A.Placement A.Array.own self.old }
+        ensures joined { Joined A.Placement A.Array.own self.new }
     {
         // a call is data, read from bytes and kept in lists, so this is a `match` and no closure
         match call {
@@ -40,6 +42,8 @@ impl<A: Array> Run<A> {
         ensures answers { IfOk result (λ v. map reply_answer v.items ≡ answers self.old.instance self.old.state calls.now) }
         ensures state { MatchResult result (λ _. self.new.state ≡ after self.old.instance self.old.state calls.now) (λ _. self.new.state ≡ self.old.state) }
         ensures instance { self.new.instance ≡ self.old.instance }
+        ensures was_joined { Joined A.Placement A.Array.own self.old }
+        ensures joined { Joined A.Placement A.Array.own self.new }
         ensures spent { Spent self.new.instance self.new.state }
     {
         // for the clause `spent`, before the calls and after them: the run is looked into, and time adds up
@@ -69,6 +73,7 @@ pub fn run_calls<A: Array + Drop>(
     calls: &[Call],
 ) -> Result<Performance<A>, AllocError>
     ensures instance { IfOk result (λ p. p.run.instance ≡ instance_of A.Placement A.Array.own setting array) }
+    ensures joined { IfOk result (λ p. Joined A.Placement A.Array.own p.run) }
     ensures state { IfOk result (λ p. p.run.state ≡ tally (instance_of A.Placement A.Array.own setting array) (A.Array.held array) calls.now) }
     ensures answers { IfOk result (λ p. map reply_answer p.replies.items ≡ answers (instance_of A.Placement A.Array.own setting array) (beginning (instance_of A.Placement A.Array.own setting array) (A.Array.held array)) calls.now) }
     ensures laws { Lawful (instance_of A.Placement A.Array.own setting array) (A.Array.held array) calls.now }

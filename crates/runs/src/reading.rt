@@ -1,7 +1,7 @@
 // What a run tells of itself, without changing.
 ghost use Rattle.std.specs.Prelude.{◌≡◌};
 ghost use Rattle.instances.specs.Instances.{instance_of};
-ghost use Rattle.runs.specs.Standing.{Counted, Spent};
+ghost use Rattle.runs.specs.Standing.{Counted, Joined, Spent};
 
 use crate::run::Run;
 use arrays::Array;
@@ -26,6 +26,7 @@ impl<A: Array> Run<A> {
     pub fn elapsed(&self) -> u16
         ensures value { result ≡ self.now.state.elapsed }
         ensures spent { Spent self.now.instance self.now.state }
+        ensures joined { Joined A.Placement A.Array.own self.now }
     {
         self.elapsed
     }
@@ -69,3 +70,10 @@ impl<A: Array> Run<A> {
         &self.array
     }
 }
+
+// Does nothing at run time: its contract is what every run keeps of its counts, whoever lends it and whatever it was given.
+#[tactic(auto, using(crate::proofs::Spending::spent))]
+pub fn run_is_counted<A: Array>(run: &Run<A>)
+    ensures counted { Counted run.now.instance run.now.state }
+    ensures spent { Spent run.now.instance run.now.state }
+{}

@@ -1,4 +1,7 @@
 // What a run holds, and what is seen of it.
+ghost use Rattle.std.specs.Prelude.{◌≡◌, ◌+◌, ◌*◌, ◌≤◌, length, count_ones};
+ghost use Rattle.settings.specs.Contents.{content};
+
 use arrays::Array;
 use settings::Setting;
 use std::marker::Model;
@@ -16,6 +19,10 @@ pub struct Run<A: Array> {
     pub(crate) stall: u16,
     pub(crate) orders: u32,
     pub(crate) cache: u64,
+    ghost within: { cursor ≤ length (content setting).requests },
+    ghost spent: { elapsed ≡ cursor + stall },
+    // each order takes a block out of the cache, where at most 64 come in with each unit
+    ghost bounded: { orders + count_ones cache ≤ 64 * (elapsed + 1) },
 }
 
 impl<A: Array> Model for Run<A> {
@@ -23,9 +30,7 @@ impl<A: Array> Model for Run<A> {
 
     ghost Value = { Standing A };
 
-    ghost use Rattle.runs.specs.Views.{standing, IsCounted};
+    ghost use Rattle.runs.specs.Views.{standing};
 
     ghost view = { standing A.Placement A.Array };
-
-    ghost invariant = { IsCounted A.Placement A.Array };
 }

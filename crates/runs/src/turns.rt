@@ -5,6 +5,7 @@ ghost use Rattle.instances.specs.Instances.{asked, last, instance_of};
 ghost use Rattle.tallies.specs.Tally.{admit, any_busy, beginning, finished, ready, told, answer, next};
 ghost use Rattle.tallies.specs.declared.call.Call.TheVariants.{Order as order_call, Unit as unit_call};
 ghost use Rattle.tallies.specs.Replies.{unit_told};
+ghost use Rattle.runs.specs.Standing.{Joined};
 ghost use Rattle.faults.specs.Faults.{run_fault};
 ghost use Rattle.faults.specs.Outcomes.{answered};
 
@@ -44,7 +45,8 @@ impl<A: Array> Run<A> {
 
     // Whether every request is served.
     pub fn is_finished(&self) -> bool
-        ensures { result ≡ finished self.now.instance self.now.state }
+        ensures value { result ≡ finished self.now.instance self.now.state }
+        ensures joined { Joined A.Placement A.Array.own self.now }
     {
         self.cursor == self.setting.len()
     }
@@ -84,6 +86,8 @@ impl<A: Array> Run<A> {
         ensures answers { told (answered run_fault result) ≡ answer self.old.instance self.old.state (order_call order) }
         ensures state { self.new.state ≡ next self.old.instance self.old.state (order_call order) }
         ensures instance { self.new.instance ≡ self.old.instance }
+        ensures was_joined { Joined A.Placement A.Array.own self.old }
+        ensures joined { Joined A.Placement A.Array.own self.new }
     {
         self.admit(order)?;
         self.array.begin(order.fetch)?;
@@ -117,6 +121,8 @@ impl<A: Array> Run<A> {
         ensures answers { unit_told result ≡ answer self.old.instance self.old.state unit_call }
         ensures state { self.new.state ≡ next self.old.instance self.old.state unit_call }
         ensures instance { self.new.instance ≡ self.old.instance }
+        ensures was_joined { Joined A.Placement A.Array.own self.old }
+        ensures joined { Joined A.Placement A.Array.own self.new }
     {
         let block = self.ready()?;
         let served = has(self.cache, block);

@@ -1,5 +1,5 @@
 -- A setting is filled exactly where its content is within the limits. Assumes nothing.
-use Rattle.std.proofs.Common.{◌≡◌, ℕ, zero, suc, ◌<◌, ◌≤◌, List, [], ◌∷◌, length, get_or, Ok, Err, Result, OnOk, refl, sym, arith, rules}
+use Rattle.std.proofs.Common.{◌≡◌, ℕ, zero, suc, ◌^◌, ◌<◌, ◌≤◌, List, [], ◌∷◌, length, get_or, count_ones, Ok, Err, Result, OnOk, refl, sym, arith, rules}
 use Rattle.std.proofs.lemmas.List.{get_or_past}
 use Rattle.std.proofs.lemmas.Bool.Decides.{nat_tests}
 use Rattle.faults.specs.declared.setting.SettingFault.{SettingFault}
@@ -10,7 +10,27 @@ use Rattle.settings.specs.declared.setting.Setting.{Setting}
 use Rattle.settings.specs.Contents.{Content, Within, content}
 use Rattle.settings.specs.Filling.{try_figures, try_initial, try_requests, try_content, FillsWithin}
 
-named : (m c : ℕ) (rs : List ℕ) → try_requests m c rs ≡ accepted → (i : ℕ) → i < length rs → get_or rs i 0 < m
+-- the figures that pass
+pub record Figured (m k n : ℕ) : Type 0 where
+  pub some_block : 1 ≤ m
+  pub few_blocks : m ≤ 64
+  pub some_held : 1 ≤ k
+  pub few_held : k ≤ m
+  pub few_requests : n ≤ 200
+
+pub figured : (m k n : ℕ) → try_figures m k n ≡ accepted → Figured m k n
+figured m k n e = record {
+  some_block = grind (arith, nat_tests);
+  few_blocks = grind (arith, nat_tests);
+  some_held = grind (arith, nat_tests);
+  few_held = grind (arith, nat_tests);
+  few_requests = grind (arith, nat_tests);
+}
+
+pub initial_passed : (m k map : ℕ) → try_initial m k map ≡ accepted → (map < 2 ^ m) × (count_ones map ≡ k)
+initial_passed m k map e = (grind (arith, nat_tests), grind (arith, nat_tests))
+
+pub named : (m c : ℕ) (rs : List ℕ) → try_requests m c rs ≡ accepted → (i : ℕ) → i < length rs → get_or rs i 0 < m
 named m c [] e i h = absurd (omega arith)
 named m c (r ∷ rs) e zero h = grind (arith, nat_tests)
 named m c (r ∷ rs) e (suc i) h = named m (suc c) rs (grind (arith, nat_tests)) i (omega arith)
@@ -19,14 +39,16 @@ pub within : (new : Content) → try_content new ≡ accepted → Within new
 within new e =
     let (figures, rest) = and_then_parts (try_figures new.blocks new.size (length new.requests)) _ e in
     let (initial, requests) = and_then_parts (try_initial new.blocks new.size new.initial) _ rest in
+    let f = figured _ _ _ figures in
+    let (known, full) = initial_passed _ _ _ initial in
     record {
-      some_block = grind (arith, nat_tests);
-      few_blocks = grind (arith, nat_tests);
-      some_held = grind (arith, nat_tests);
-      few_held = grind (arith, nat_tests);
-      few_requests = grind (arith, nat_tests);
-      full = grind (arith, nat_tests);
-      known = grind (arith, nat_tests);
+      some_block = f.some_block;
+      few_blocks = f.few_blocks;
+      some_held = f.some_held;
+      few_held = f.few_held;
+      few_requests = f.few_requests;
+      full = full;
+      known = known;
       named = named _ 1 new.requests requests;
     }
 

@@ -93,7 +93,9 @@ impl Setting {
         Ok(())
     }
 
-    // Fills the setting, or refuses and changes nothing.
+    // Fills the setting, or refuses and changes nothing. (Where it is compiled into its caller, tests of few requests, or of
+    // requests that the caller knows, cost next to nothing.)
+    #[inline]
     pub fn fill(&mut self, new: &Contents) -> Result<(), SettingFault>
         ensures answers { answered setting_fault result ≡ try_content (wanted new.now) }
         ensures limits { FillsWithin (wanted new.now) (answered setting_fault result) }

@@ -7,5 +7,5 @@ mod reading;
 mod setting;
 
 pub use contents::Contents;
-pub use faults::{Figure, SettingFault};
+pub use faults::{Figure, Numbered, SettingFault};
 pub use setting::Setting;

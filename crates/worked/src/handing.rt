@@ -1,6 +1,5 @@
 // Hand-ins that are refused, each with its number, part and place.
-use faults::Numbered;
-use handins::{Counts, mark_hand_in};
+use handins::{Counts, Numbered, mark_hand_in};
 use std::alloc::Global;
 use std::test::Fail;
 

@@ -1,7 +1,6 @@
 // Schedules on the worked run.
 use super::running::worked_run;
-use faults::Numbered;
-use replays::replay;
+use replays::{Numbered, replay};
 use std::alloc::Global;
 use std::test::Fail;
 
