@@ -10,7 +10,7 @@ use Rattle.replays.specs.declared.log.Replay.{Replay}
 use Rattle.replays.specs.Turns.{done}
 
 -- one turn of the replay: the finish, or a unit and then the rest
-one_turn : (w : Instance) (bytes : List ℕ) (turns p : ℕ) (d : Done) → 0 < turns
+pub one_turn : (w : Instance) (bytes : List ℕ) (turns p : ℕ) (d : Done) → 0 < turns
     → replay_units w bytes turns p d
     ≡ cond (finished w d.state) (cond (ltb p (length bytes)) (stops (fault_at 14 p) d) (goes tt d)) (and_then (replay_unit w bytes p d) (replay_units w bytes (turns - 1)))
 unfolding replay_units

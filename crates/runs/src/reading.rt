@@ -10,14 +10,16 @@ use settings::Setting;
 impl<A: Array> Run<A> {
     // Whether a fetch was under way when the run was made.
     pub fn is_void(&self) -> bool
-        ensures { result ≡ self.now.state.void }
+        ensures value { result ≡ self.now.state.void }
+        ensures joined { Joined A.Placement A.Array.own self.now }
     {
         self.void
     }
 
     // The requests served.
     pub fn cursor(&self) -> u8
-        ensures { result ≡ self.now.state.cursor }
+        ensures value { result ≡ self.now.state.cursor }
+        ensures joined { Joined A.Placement A.Array.own self.now }
     {
         self.cursor
     }
@@ -33,7 +35,8 @@ impl<A: Array> Run<A> {
 
     // The units that stalled.
     pub fn stall(&self) -> u16
-        ensures { result ≡ self.now.state.stall }
+        ensures value { result ≡ self.now.state.stall }
+        ensures joined { Joined A.Placement A.Array.own self.now }
     {
         self.stall
     }
@@ -42,13 +45,15 @@ impl<A: Array> Run<A> {
     pub fn orders(&self) -> u32
         ensures value { result ≡ self.now.state.orders }
         ensures counted { Counted self.now.instance self.now.state }
+        ensures joined { Joined A.Placement A.Array.own self.now }
     {
         self.orders
     }
 
     // The map of the blocks in the cache.
     pub fn cache(&self) -> u64
-        ensures { result ≡ self.now.state.cache }
+        ensures value { result ≡ self.now.state.cache }
+        ensures joined { Joined A.Placement A.Array.own self.now }
     {
         self.cache
     }
@@ -57,6 +62,7 @@ impl<A: Array> Run<A> {
     pub fn setting(&self) -> &Setting
         ensures lent { result.now ≡ self.now.setting }
         ensures instance { self.now.instance ≡ instance_of A.Placement A.Array.own result.now self.now.array }
+        ensures disks { self.now.state.disks ≡ A.Array.held self.now.array }
     {
         &self.setting
     }

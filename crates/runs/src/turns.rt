@@ -28,6 +28,7 @@ impl<A: Array> Run<A> {
     pub fn new(setting: Setting, array: A) -> Run<A>
         ensures instance { result.instance ≡ instance_of A.Placement A.Array.own setting array }
         ensures state { result.state ≡ beginning (instance_of A.Placement A.Array.own setting array) (A.Array.held array) }
+        ensures joined { Joined A.Placement A.Array.own result }
     {
         let void = is_busy(&array);
         let cache = setting.initial();

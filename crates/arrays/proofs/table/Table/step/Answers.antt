@@ -19,7 +19,7 @@ loop-disk-preserved c =
     let here = ap fetch c.disk-item.is in
     let inside : i < length os = omega (arith, length-map c.args.self.now.disks fetch, c.args.self.now.four, c.loop-disk-test.true) in
     let at : old.fetch ≡ get_or (contents ds) i old.fetch = here ∙ sym (get_or-map fetch ds i old) in
-    let seen : (get_or ds i old).fetch ≡ get_or os i old.fetch = sym here ∙ at ∙ walk_here os (contents ds) i old.fetch inside inv.stepped in
+    let seen : (get_or ds i old).fetch ≡ get_or os i old.fetch = sym here ∙ at ∙ walk_here os (contents ds) i old.fetch inv.stepped in
     let more = arrivals_more os i old.fetch inside in
     record {
       stepped =
