@@ -55,7 +55,8 @@ pub fn replay<A: Array>(
     ensures joined { Joined A.Placement A.Array.own run.new }
     ensures untouched { OnErr result (run.new.state ≡ run.old.state) }
 {
-    // the run's array has at most four disks, as every array has: there are four places for orders in a unit's record
+    // lent, the array is known to be the run's, here and below; as every array it has at most four disks, and there are four
+    // places for orders in a unit's record
     let _ = run.array();
     let mut replay = Replay {
         bytes,
