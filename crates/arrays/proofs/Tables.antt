@@ -1,9 +1,8 @@
 -- Tables of disk records, and a walk over them that steps one disk after another. Assumes nothing.
-use Rattle.std.proofs.Common.{◌≡◌, ℕ, ◌+◌, ◌-◌, ◌<◌, ◌≤◌, false, eqb, [], ◌∷◌, ◌++◌, map, length, get_or, take, drop, is_some, Some, None, Option, sym, refl, ap, ◌∙◌, ⊎_elim, arith}
-use Rattle.std.proofs.lemmas.Grind.{common_steps}
+use Rattle.std.proofs.Common.{◌≡◌, ℕ, zero, suc, ◌+◌, ◌-◌, ◌<◌, ◌≤◌, false, eqb, [], ◌∷◌, ◌++◌, map, length, get_or, take, drop, is_some, Some, None, Option, sym, refl, ap, ◌∙◌, arith}
 use lib.Bits.{bit_or, or_zero_l, or_zero_r}
-use Rattle.std.proofs.lemmas.List.{get_or_past, take_more}
-use Rattle.std.proofs.lemmas.Bool.{cases_lt, cond_both, true≢false}
+use Rattle.std.proofs.lemmas.List.{take_more}
+use Rattle.std.proofs.lemmas.Bool.{cond_both, true≢false}
 use Rattle.maps.proofs.Maps.{or_assoc}
 use Rattle.arrays.specs.declared.fetch.Fetch.{Fetch}
 use Rattle.arrays.specs.Disks.{Disks, step_disk, delivered, arrivals}
@@ -17,11 +16,14 @@ pub arrivals_more : (os : Disks) (i : ℕ) (o : Option Fetch) → i < length os 
 arrivals_more os i o h = ap arrivals (take_more os i o h) ∙ arrivals_push (take i os) (get_or os i o)
 
 -- a walk that has stepped the disks before place i, and left the others as they were in os
+walk_at : (os : Disks) (i : ℕ) (o : Option Fetch) → get_or (map step_disk (take i os) ++ drop i os) i o ≡ get_or os i o
+walk_at [] zero o = refl
+walk_at [] (suc i) o = refl
+walk_at (x ∷ os) zero o = refl
+walk_at (x ∷ os) (suc i) o = walk_at os i o
+
 pub walk_here : (os xs : Disks) (i : ℕ) (o : Option Fetch) → xs ≡ map step_disk (take i os) ++ drop i os → get_or xs i o ≡ get_or os i o
-walk_here os xs i o e =
-    let here : i < length os → get_or xs i o ≡ get_or os i o = λ h. grind (arith, common_steps, e) in
-    let past : length os ≤ i → get_or xs i o ≡ get_or os i o = λ h. get_or_past xs i o (grind (arith, common_steps, e)) ∙ sym (get_or_past os i o h) in
-    ⊎_elim here past (cases_lt i (length os))
+walk_here os xs i o e = ap (λ ys. get_or ys i o) e ∙ walk_at os i o
 
 -- what a unit keeps of one disk
 pub step_within : (o : Option Fetch) (time : ℕ) → 1 ≤ time → left_of o ≤ time → left_of (step_disk o) ≤ time

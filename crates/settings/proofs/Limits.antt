@@ -19,16 +19,10 @@ pub record Figured (m k n : ℕ) : Type 0 where
   pub few_requests : n ≤ 200
 
 pub figured : (m k n : ℕ) → try_figures m k n ≡ accepted → Figured m k n
-figured m k n e = record {
-  some_block = grind (arith, nat_tests);
-  few_blocks = grind (arith, nat_tests);
-  some_held = grind (arith, nat_tests);
-  few_held = grind (arith, nat_tests);
-  few_requests = grind (arith, nat_tests);
-}
+figured m k n e = grind (arith, nat_tests)
 
 pub initial_passed : (m k map : ℕ) → try_initial m k map ≡ accepted → (map < 2 ^ m) × (count_ones map ≡ k)
-initial_passed m k map e = (grind (arith, nat_tests), grind (arith, nat_tests))
+initial_passed m k map e = grind (arith, nat_tests)
 
 pub named : (m c : ℕ) (rs : List ℕ) → try_requests m c rs ≡ accepted → (i : ℕ) → i < length rs → get_or rs i 0 < m
 named m c [] e i h = absurd (omega arith)
